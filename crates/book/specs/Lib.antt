@@ -1,0 +1,17 @@
+pub mod Types
+pub mod Codes
+pub mod Counting
+pub mod Rows
+pub mod Tables
+pub mod Answers
+pub mod Opening
+pub mod Accounts
+pub mod Receipts
+pub mod Pairing
+pub mod Offers
+pub mod Closing
+pub mod Settlement
+pub mod Calls
+pub mod Entries
+pub mod Lists
+pub mod Demand3

@@ -1,0 +1,158 @@
+-- One account, one receipt, one match: the row of an unused cell, a row with one thing changed, and what a row is asked. Assumes nothing.
+use mathlib.Core.Bool.{Bool, true, false, _&&_}
+use Prim.Native.Nat.{ℕ, _+_, _-_}
+use lib.Dec.{eqb}
+use lib.IntN.{ℤ, pos, _+ℤ_, _-ℤ_}
+use Rattle.coal.specs.Choice.{pick}
+use Rattle.book.specs.Types.{Side, Heat, Offer, ReceiptState, Stage, Account, Receipt, Match}
+
+-- ---- an unused cell: zeros and first cases, which is also what a read past a table's end gives
+
+abbrev pub blank-account : Account
+blank-account = record { cash = pos 0; units = 0; opened = 0; heat = Heat.Missing; offer = Offer.Missing; side = Side.Flat; overseas = false; fit = false }
+
+abbrev pub blank-receipt : Receipt
+blank-receipt = record { owner = 0; bonded = false; state = ReceiptState.Free }
+
+abbrev pub blank-match : Match
+blank-match = record { held = 0; price = 0; units = 0; due = 0; heat = Heat.Missing; buyer = 0; seller = 0; stage = Stage.Paired }
+
+-- ---- an account
+
+abbrev pub with-cash : Account → ℤ → Account
+with-cash a z = record { cash = z; units = a .units; opened = a .opened; heat = a .heat; offer = a .offer; side = a .side; overseas = a .overseas; fit = a .fit }
+
+abbrev pub with-position : Account → Side → ℕ → ℕ → Account
+with-position a s u d = record { cash = a .cash; units = u; opened = d; heat = a .heat; offer = a .offer; side = s; overseas = a .overseas; fit = a .fit }
+
+abbrev pub with-heat : Account → Heat → Account
+with-heat a h = record { cash = a .cash; units = a .units; opened = a .opened; heat = h; offer = a .offer; side = a .side; overseas = a .overseas; fit = a .fit }
+
+abbrev pub with-offer : Account → Offer → Account
+with-offer a o = record { cash = a .cash; units = a .units; opened = a .opened; heat = a .heat; offer = o; side = a .side; overseas = a .overseas; fit = a .fit }
+
+-- "cash up by it"
+abbrev pub credited : Account → ℕ → Account
+credited a x = with-cash a (a .cash +ℤ pos x)
+
+-- "cash down by it"
+abbrev pub debited : Account → ℕ → Account
+debited a x = with-cash a (a .cash -ℤ pos x)
+
+-- u units more on a side; "its opening day (when units last left 0 ..)"
+abbrev pub units-on : Account → Side → ℕ → ℕ → Account
+units-on a s u day = with-position a s (a .units + u) (pick (eqb (a .units) 0) day (a .opened))
+
+-- u units less; "a side at 0 units becomes none"; the opening day is "kept at side none"
+abbrev pub units-off : Account → ℕ → Account
+units-off a u = with-position a (pick (eqb (a .units - u) 0) Side.Flat (a .side)) (a .units - u) (a .opened)
+
+abbrev pub is-long : Side → Bool
+is-long Side.Flat = false
+is-long Side.Long = true
+is-long Side.Short = false
+
+abbrev pub is-short : Side → Bool
+is-short Side.Flat = false
+is-short Side.Long = false
+is-short Side.Short = true
+
+-- the units that an account is long, and short: 0 on another side
+abbrev pub long-units : Account → ℕ
+long-units a = pick (is-long (a .side)) (a .units) 0
+
+abbrev pub short-units : Account → ℕ
+short-units a = pick (is-short (a .side)) (a .units) 0
+
+abbrev pub heat-missing : Heat → Bool
+heat-missing Heat.Missing = true
+heat-missing (Heat.Declared h) = false
+
+-- the heat, where it is declared
+abbrev pub heat-value : Heat → ℕ
+heat-value Heat.Missing = 0
+heat-value (Heat.Declared h) = h
+
+abbrev pub offer-missing : Offer → Bool
+offer-missing Offer.Missing = true
+offer-missing (Offer.Units u) = false
+
+-- the units offered, where an offer stands
+abbrev pub offer-units : Offer → ℕ
+offer-units Offer.Missing = 0
+offer-units (Offer.Units u) = u
+
+-- ---- a receipt
+
+abbrev pub with-state : Receipt → ReceiptState → Receipt
+with-state r s = record { owner = r .owner; bonded = r .bonded; state = s }
+
+abbrev pub is-free : ReceiptState → Bool
+is-free ReceiptState.Free = true
+is-free (ReceiptState.Frozen j) = false
+is-free ReceiptState.Struck = false
+
+abbrev pub is-frozen : ReceiptState → Bool
+is-frozen ReceiptState.Free = false
+is-frozen (ReceiptState.Frozen j) = true
+is-frozen ReceiptState.Struck = false
+
+abbrev pub is-struck : ReceiptState → Bool
+is-struck ReceiptState.Free = false
+is-struck (ReceiptState.Frozen j) = false
+is-struck ReceiptState.Struck = true
+
+abbrev pub is-frozen-for : ℕ → ReceiptState → Bool
+is-frozen-for n ReceiptState.Free = false
+is-frozen-for n (ReceiptState.Frozen j) = eqb j n
+is-frozen-for n ReceiptState.Struck = false
+
+-- which receipts are meant: those of either class, or the bonded ones only
+abbrev pub any-class : Bool
+any-class = false
+
+abbrev pub bonded-only : Bool
+bonded-only = true
+
+-- a receipt is free, owner k's, and of the class meant
+abbrev pub is-free-of : Bool → ℕ → Receipt → Bool
+is-free-of c k r = is-free (r .state) && eqb (r .owner) k && pick c (r .bonded) true
+
+-- "1 frozen for a match"
+abbrev pub frozen-for : ℕ → Receipt → Receipt
+frozen-for j r = with-state r (ReceiptState.Frozen j)
+
+-- a receipt that is frozen for match j is free, any other as it was
+abbrev pub released : ℕ → Receipt → Receipt
+released j r = pick (is-frozen-for j (r .state)) (with-state r ReceiptState.Free) r
+
+-- a receipt that is frozen for match j is free and the buyer's, any other as it was
+abbrev pub passed : ℕ → ℕ → Receipt → Receipt
+passed j buyer r = pick (is-frozen-for j (r .state)) (record { owner = buyer; bonded = r .bonded; state = ReceiptState.Free }) r
+
+-- ---- a match
+
+-- with so much money held, and a stage
+abbrev pub with-held : Match → ℕ → Stage → Match
+with-held m x s = record { held = x; price = m .price; units = m .units; due = m .due; heat = m .heat; buyer = m .buyer; seller = m .seller; stage = s }
+
+abbrev pub is-paired : Stage → Bool
+is-paired Stage.Paired = true
+is-paired Stage.Prepaid = false
+is-paired Stage.Held = false
+is-paired Stage.Closed = false
+is-paired Stage.Ended = false
+
+abbrev pub is-prepaid : Stage → Bool
+is-prepaid Stage.Paired = false
+is-prepaid Stage.Prepaid = true
+is-prepaid Stage.Held = false
+is-prepaid Stage.Closed = false
+is-prepaid Stage.Ended = false
+
+abbrev pub is-held : Stage → Bool
+is-held Stage.Paired = false
+is-held Stage.Prepaid = false
+is-held Stage.Held = true
+is-held Stage.Closed = false
+is-held Stage.Ended = false

@@ -1,0 +1,14 @@
+pub mod Script
+pub mod Worked
+pub mod Accounts
+pub mod Warehouse
+pub mod Offers
+pub mod ThreePasses
+pub mod OldestFirst
+pub mod EnoughBonded
+pub mod Faults
+pub mod BoardFaults
+pub mod Terminate
+pub mod HeatLate
+pub mod Measured
+pub mod Tables

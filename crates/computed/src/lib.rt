@@ -1,0 +1,1 @@
+// Sessions that the machine's definitions compute: theorems in specs/, no code.
