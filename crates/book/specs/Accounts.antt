@@ -43,6 +43,10 @@ withdraw b k x =
 abbrev pub add-units : Book → ℕ → Side → ℕ → Book
 add-units b k s u = put-account b k (units-on (account-at b k) s u (b .day))
 
+-- "adds units long to one and short to the other"
+abbrev pub traded : Book → ℕ → ℕ → ℕ → Book
+traded b buyer seller u = add-units (add-units b buyer Side.Long u) seller Side.Short u
+
 -- "4 Trade buyer, seller, units: adds units long to one and short to the other."
 unfoldable pub trade : Book → ℕ → ℕ → ℕ → Outcome
 trade b buyer seller u =
@@ -56,4 +60,4 @@ trade b buyer seller u =
     (refuse-if (is-long (account-at b seller .side)) 9 b
     (refuse-if (ltb 1_000 (account-at b buyer .units + u)) 10 b
     (refuse-if (ltb 1_000 (account-at b seller .units + u)) 10 b
-    (accept 0 (add-units (add-units b buyer Side.Long u) seller Side.Short u)))))))))))
+    (accept 0 (traded b buyer seller u)))))))))))

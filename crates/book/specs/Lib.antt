@@ -15,3 +15,4 @@ pub mod Calls
 pub mod Entries
 pub mod Lists
 pub mod Demand3
+pub mod laws

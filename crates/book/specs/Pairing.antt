@@ -9,7 +9,7 @@ use Rattle.book.specs.Counting.{iter}
 use Rattle.book.specs.Rows.{blank-receipt, units-off, frozen-for}
 use Rattle.book.specs.Tables.{account-at, put-account, add-match, with-receipts, free-at}
 
--- "takes the units off"
+-- u units off account k
 abbrev pub take-units : Book → ℕ → ℕ → Book
 take-units b k u = put-account b k (units-off (account-at b k) u)
 
@@ -32,9 +32,11 @@ freeze b c seller j u =
     (iter (b .«receipt_count») 0 (freeze-turn c seller j) (record { receipts = b .receipts; left = u }) .receipts)
     (b .«receipt_count»)
 
--- "Pairing takes the units off both sides; .. In a receipts book it freezes the seller's lowest-numbered free receipts": u units of buyer
--- and seller become the next match, due in some days
+-- "Pairing takes the units off both sides": u units of buyer and seller are the next match, due in some days, with no receipt frozen yet
+abbrev pub taken : Book → ℕ → ℕ → ℕ → ℕ → Book
+taken b days buyer seller u = take-units (take-units (add-match b (new-match b buyer seller u days)) buyer u) seller u
+
+-- "In a receipts book it freezes the seller's lowest-numbered free receipts": c says of which class
 unfoldable pub pair : Book → Bool → ℕ → ℕ → ℕ → ℕ → Book
 pair b c days buyer seller u =
-    let taken = take-units (take-units (add-match b (new-match b buyer seller u days)) buyer u) seller u in
-    pick (b .board) taken (freeze taken c seller (b .«match_count») u)
+    pick (b .board) (taken b days buyer seller u) (freeze (taken b days buyer seller u) c seller (b .«match_count») u)

@@ -165,6 +165,12 @@ pub enum Call {
     },
 }
 
+// One of a list of buyers or sellers in Close: an account's number and the units left to it.
+pub struct Listed {
+    pub account: u8,
+    pub left: u16,
+}
+
 // What a search through a table finds: a row's number, or nothing.
 pub enum Found {
     At(usize),

@@ -1,0 +1,316 @@
+-- The first pass of an accepted Close, in the words of demand 3: it gave out the lesser of what was open and what was offered, and filled older
+-- positions first. What the walk keeps, from its lists' start to the end of one; then what the later pairings leave of it. Assumes nothing.
+use mathlib.Core.Path.{_≡_, refl, sym, ap, _∙_, subst}
+use mathlib.Core.Logic.{_⊎_, inl, inr}
+use mathlib.Core.Bool.{Bool, true, false, _&&_}
+use mathlib.Core.List.{List, [], _∷_}
+use Prim.Native.Nat.{ℕ, _+_, _-_, _≤_, _<_, min}
+use native.Mathlib.Omega.{arith}
+use lib.Dec.{eqb, ltb}
+use borrow.Author.Tests.{ltb-false}
+use Rattle.coal.specs.Choice.{pick}
+use Rattle.book.specs.declared.ReceiptState.{ReceiptState}
+use Rattle.book.specs.declared.Book.{Book}
+use Rattle.book.specs.declared.Call.{Call}
+use Rattle.book.specs.declared.Outcome.{Outcome}
+use Rattle.book.specs.declared.Listed.{Listed}
+use Rattle.book.specs.Counting.{those, sum}
+use Rattle.book.specs.Rows.{is-free, is-short, long-units, short-units, bonded-only}
+use Rattle.book.specs.Tables.{account-at, receipt-at, with-open, free-receipts}
+use Rattle.book.specs.Answers.{is-accepted}
+use Rattle.book.specs.Pairing.{pair}
+use Rattle.book.specs.Closing.{use-up, is-buyer, is-seller, is-overseas-buyer, with-units, in-order, overseas-buyers, bonded-offer, bonded-sellers, first-pass, second-pass, third-pass, all-passes, lapse-offers}
+use Rattle.book.specs.Calls.{step}
+use Rattle.book.specs.Lists.{accepts}
+use Rattle.book.specs.Demand3.{overseas-units-open, bonded-units-offered, frozen-for-buyer, gave, gave-out, FirstPass}
+use Rattle.book.specs.laws.Counting.{by-pick, by-eq, and-left, and-right, sum-same, sum-none, sum-change, tally-same, tally-none, sum-plus, only, only-here, only-else}
+use Rattle.book.specs.laws.Answered.{Answered, answered}
+use Rattle.book.specs.laws.Sound.{Core, SoundTables}
+use Rattle.book.specs.laws.Pairing.{Pairable, pairable-long, pairable-short, Paired, pair-core, paired-long, paired-short}
+use Rattle.book.specs.laws.Walking.{All, all-map, all-of, left-of, use-up-left, use-up-all, front-left, Passed}
+use Rattle.book.specs.laws.Listing.{those-all, order-all, Rising, rising-of, order-rising}
+use Rattle.book.specs.laws.Closing.{overseas-left, bonded-left, first-walk, later-keep}
+use Rattle.book.specs.laws.Given.{Since, gave-none, since-pair, free-pair, gave-other, gave-nothing, first-gave, first-free}
+
+-- what account k offers of bonded receipts: the lesser of its short units and its free ones
+abbrev offering : Book → ℕ → ℕ
+offering z k = min (short-units (account-at z k)) (free-receipts z bonded-only k)
+
+-- nobody whom no listed account is as old as is listed
+older-none : (f : ℕ → ℕ) (l : ℕ) (xs : List Listed) → All (λ (x : Listed). f l < f (x .account)) xs → left-of l xs ≡ 0
+unfolding left-of
+older-none f l [] h = refl
+older-none f l (x ∷ xs) h = omega (arith, older-none f l xs (h .1), only-else (x .account) (x .left) l (λ e. let z = ap f e in omega (arith, h .0)))
+
+module _ (b : Book) where
+  abbrev n : ℕ
+  n = b .«account_count»
+
+  abbrev day : ℕ → ℕ
+  day k = account-at b k .opened
+
+  -- ---- what was given out, added up
+
+  out-none : (e : Book) → ((k : ℕ) → gave b e k ≡ 0) → gave-out b e ≡ 0
+  unfolding gave-out
+  out-none e h = sum-none (λ k. pick (is-overseas-buyer b k) (gave b e k) 0) n 0 (λ k x y. by-pick (λ (v : ℕ). v ≡ 0) (is-overseas-buyer b k) (λ o. h k) (λ o. refl))
+
+  out-same : (z e : Book) → ((k : ℕ) → k < n → account-at b k .overseas ≡ true → gave b e k ≡ gave b z k) → gave-out b e ≡ gave-out b z
+  unfolding gave-out
+  out-same z e h = sum-same _ _ n 0 (λ k x y. go k (is-overseas-buyer b k) refl (omega arith))
+    where
+      go : (k : ℕ) (t : Bool) → is-overseas-buyer b k ≡ t → k < n → pick t (gave b e k) 0 ≡ pick t (gave b z k) 0
+      go k true o g = h k g (and-left (account-at b k .overseas) _ o)
+      go k false o g = refl
+
+  more-out : (z e : Book) (i u : ℕ) → i < n → is-overseas-buyer b i ≡ true → ((k : ℕ) → gave b e k ≡ gave b z k + only i u k) → gave-out b e ≡ gave-out b z + u
+  unfolding gave-out
+  more-out z e i u h o g =
+      let f : Book → ℕ → ℕ = λ y k. pick (is-overseas-buyer b k) (gave b y k) 0 in
+      let c = sum-change (f e) (f z) n 0 i (omega arith) (omega arith) (λ k d. ap (λ (x : ℕ). pick (is-overseas-buyer b k) x 0) (omega (arith, g k, only-else i u k d))) in
+      let x : f e i ≡ gave b e i = rw o in
+      let y : f z i ≡ gave b z i = rw o in
+      omega (arith, g i, only-here i u)
+
+  -- ---- the walk
+
+  -- what the first pass gave, with z the book so far
+  record Giving (z : Book) : Type 0 where
+    pub since : Since b z
+    pub filled : (k : ℕ) → k < n → is-overseas-buyer b k ≡ true → gave b z k + long-units (account-at z k) ≡ account-at b k .units
+    pub out : gave-out b z + sum n 0 (offering z) ≡ bonded-units-offered b
+    pub older : (k l : ℕ) → l < n → is-overseas-buyer b l ≡ true → 0 < gave b z k → day l < day k → long-units (account-at z l) ≡ 0
+
+  -- what every turn of its walk keeps
+  record Walking (xs ys : List Listed) (z : Book) : Type 0 where
+    pub giving : Giving z
+    pub buyers : (k : ℕ) → k < n → account-at b k .overseas ≡ true → long-units (account-at z k) ≤ left-of k xs
+    pub sellers : (k : ℕ) → k < n → offering z k ≡ left-of k ys
+    pub rising : Rising (λ (x : Listed). day (x .account)) xs
+    pub members : All (λ (x : Listed). is-overseas-buyer b (x .account) ≡ true) xs
+
+  walking-one : (x y : Listed) (xs ys : List Listed) (z : Book) → Core z → Pairable z (x .account) (y .account) (min (x .left) (y .left)) → Walking (x ∷ xs) (y ∷ ys) z
+      → Walking (use-up (min (x .left) (y .left)) x xs) (use-up (min (x .left) (y .left)) y ys) (pair z bonded-only 1 (x .account) (y .account) (min (x .left) (y .left)))
+  walking-one x y xs ys z r p w = record {
+    giving = record {
+      since = since-pair b z bonded-only i j u s r p;
+      filled = λ k h e. omega (arith, v .filled k h e, gives k, long k, pairable-long p k);
+      out = omega (arith, v .out, more, less);
+      older = λ k l h e g d. by-eq k i
+          (λ q. let a : day l < day i = rw q at d in omega (arith, long l, w .buyers l h (and-left (account-at b l .overseas) _ e), older-none day l (x ∷ xs) (a, all-map (λ (y : Listed). day i ≤ day (y .account)) (λ (y : Listed). day l < day (y .account)) xs (λ y o. omega arith) (w .rising .0))))
+          (λ q. omega (arith, long l, v .older k l h e (omega (arith, gives k, only-else i u k q)) d));
+    };
+    buyers = λ k h e. omega (arith, w .buyers k h e, long k, use-up-left u x xs k (omega arith));
+    sellers = λ k h. omega (arith, w .sellers k h, offers k, use-up-left u y ys k (omega arith));
+    rising = by-pick (Rising (λ (x : Listed). day (x .account))) (eqb (x .left - u) 0) (λ e. w .rising .1) (λ e. w .rising);
+    members = use-up-all u x xs (λ (x : Listed). is-overseas-buyer b (x .account) ≡ true) (λ g. w .members .0) (w .members .1);
+  }
+    where
+      i : ℕ
+      i = x .account
+
+      j : ℕ
+      j = y .account
+
+      u : ℕ
+      u = min (x .left) (y .left)
+
+      e : Book
+      e = pair z bonded-only 1 i j u
+
+      v : Giving z
+      v = w .giving
+
+      s : Since b z
+      s = v .since
+
+      q : Paired z 1 i j u e
+      q = pair-core z bonded-only 1 i j u (omega arith) p r
+
+      enough : u ≤ free-receipts z bonded-only j
+      enough = omega (arith, w .sellers j (omega (arith, p .seller-there, s .accounts)), front-left y ys)
+
+      gives : (k : ℕ) → gave b e k ≡ gave b z k + only i u k
+      gives k = first-gave b z i j u s r p enough k
+
+      long : (k : ℕ) → long-units (account-at e k) ≡ long-units (account-at z k) - only i u k
+      long k = paired-long p q r k
+
+      offers : (k : ℕ) → offering e k + only j u k ≡ offering z k
+      offers k = omega (arith, paired-short p q r k, first-free b z i j u s r p enough k, pairable-short p k)
+
+      more : gave-out b e ≡ gave-out b z + u
+      more = more-out z e i u (omega (arith, p .buyer-there, s .accounts)) (w .members .0) gives
+
+      less : sum n 0 (offering e) + u ≡ sum n 0 (offering z)
+      less = omega (arith, sum-change (offering e) (offering z) n 0 j (omega arith) (omega (arith, p .seller-there, s .accounts)) (λ k d. omega (arith, offers k, only-else j u k d)), offers j, only-here j u)
+
+  -- ---- the lists' start
+
+  all-offered : b .board ≡ false → sum n 0 (offering b) ≡ bonded-units-offered b
+  unfolding bonded-units-offered
+  all-offered nb = by-pick (λ (v : ℕ). sum n 0 (offering b) ≡ v) (b .board) (λ e. cc) (λ e. sum-same _ _ n 0 (λ k x y. go k (is-seller b k)))
+    where
+      go : (k : ℕ) (t : Bool) → min (pick t (account-at b k .units) 0) (free-receipts b bonded-only k) ≡ pick t (bonded-offer b k) 0
+      go k true = refl
+      go k false = omega arith
+
+  start-rising : Rising (λ (x : Listed). day (x .account)) (overseas-buyers b)
+  unfolding overseas-buyers
+  start-rising = rising-of (λ (x : Listed). day (x .account)) (with-units b) (in-order b (those n 0 (is-overseas-buyer b))) (order-rising b (those n 0 (is-overseas-buyer b)))
+
+  start-members : All (λ (x : Listed). is-overseas-buyer b (x .account) ≡ true) (overseas-buyers b)
+  unfolding overseas-buyers
+  start-members =
+      all-of (λ (x : Listed). is-overseas-buyer b (x .account) ≡ true) (with-units b) (in-order b (those n 0 (is-overseas-buyer b)))
+      (order-all (λ k. is-overseas-buyer b k ≡ true) b (those n 0 (is-overseas-buyer b)) (those-all (λ k. is-overseas-buyer b k ≡ true) (is-overseas-buyer b) n 0 (λ k x y e. e)))
+
+  walking-start : b .board ≡ false → Walking (overseas-buyers b) (bonded-sellers b) b
+  walking-start nb = record {
+    giving = record {
+      since = record { accounts = refl; receipts = refl; overseas = λ k. refl; bonded = λ k h. refl; free = λ k h e. e };
+      filled = λ k h e. rw (gave-none b k, and-right (account-at b k .overseas) (is-buyer b k) e) (omega arith);
+      out = omega (arith, out-none b (gave-none b), all-offered nb);
+      older = λ k l h e g d. absurd (omega (arith, gave-none b k));
+    };
+    buyers = λ k h e. rw (overseas-left b k h, e) (omega arith);
+    sellers = λ k h. go k (is-short (account-at b k .side)) (ltb 0 (bonded-offer b k)) refl ∙ sym (bonded-left b k h);
+    rising = start-rising;
+    members = start-members;
+  }
+    where
+      go : (k : ℕ) (s t : Bool) → ltb 0 (bonded-offer b k) ≡ t → min (pick s (account-at b k .units) 0) (free-receipts b bonded-only k) ≡ pick (s && t) (bonded-offer b k) 0
+      go k true true e = refl
+      go k true false e = omega (arith, ltb-false 0 (bonded-offer b k) e)
+      go k false t e = omega arith
+
+  -- ---- the end of one list
+
+  -- no overseas account is long any more, or no account offers a bonded receipt any more
+  abbrev Over : Book → Type 0
+  Over z = ((k : ℕ) → k < n → account-at b k .overseas ≡ true → long-units (account-at z k) ≡ 0) ⊎ ((k : ℕ) → k < n → offering z k ≡ 0)
+
+  record Walked (z : Book) : Type 0 where
+    pub giving : Giving z
+    pub over : Over z
+
+  first-done : b .board ≡ false → b .«match_count» ≤ 64 → Core b → Passed Walked n (b .«match_count») (b .«match_count» + 31) (first-pass b)
+  first-done nb m r =
+      first-walk Walking Walked walking-one
+      (λ ys z c w. record { giving = w .giving; over = inl (λ k h e. omega (arith, w .buyers k h e, older-none day k [] tt)) })
+      (λ xs z c w. record { giving = w .giving; over = inr (λ k h. w .sellers k h ∙ older-none day k [] tt) })
+      b m r (λ q. absurd (let z : _≡_ {A = ℕ} 0 1 = cc in omega arith)) walking-start
+
+  -- the units of overseas buyers that are open yet
+  abbrev still-open : Book → ℕ → ℕ
+  still-open z k = pick (is-overseas-buyer b k) (long-units (account-at z k)) 0
+
+  open-sum : {z : Book} → Giving z → overseas-units-open b ≡ gave-out b z + sum n 0 (still-open z)
+  unfolding gave-out overseas-units-open
+  open-sum {z} w = sum-plus (λ k. pick (is-overseas-buyer b k) (account-at b k .units) 0) (λ k. pick (is-overseas-buyer b k) (gave b z k) 0) (still-open z) n 0 (λ k i j. go k (is-overseas-buyer b k) refl (omega arith))
+    where
+      go : (k : ℕ) (t : Bool) → is-overseas-buyer b k ≡ t → k < n → pick t (account-at b k .units) 0 ≡ pick t (gave b z k) 0 + pick t (long-units (account-at z k)) 0
+      go k true e h = sym (w .filled k h e)
+      go k false e h = refl
+
+  -- given out is exactly the lesser of the overseas units open and the bonded units offered
+  walked-lesser : {z : Book} → Walked z → gave-out b z ≡ min (overseas-units-open b) (bonded-units-offered b)
+  walked-lesser {z} w = go (w .over)
+    where
+      go : Over z → gave-out b z ≡ min (overseas-units-open b) (bonded-units-offered b)
+      go (inl o) = omega (arith, open-sum (w .giving), w .giving .out, sum-none (still-open z) n 0 (λ k x y. by-pick (λ (v : ℕ). v ≡ 0) (is-overseas-buyer b k) (λ e. o k (omega arith) (and-left (account-at b k .overseas) _ e)) (λ e. refl)))
+      go (inr o) = omega (arith, open-sum (w .giving), w .giving .out, sum-none (offering z) n 0 (λ k x y. o k (omega arith)))
+
+  -- ---- the later passes: "freeze no bonded one for an overseas buyer, only ordinary ones"
+
+  record Later (f z : Book) : Type 0 where
+    pub since : Since b z
+    pub same : (k : ℕ) → k < n → account-at b k .overseas ≡ true → gave b z k ≡ gave b f k
+    pub over : Over z
+
+  later-one : (f z : Book) (c : Bool) (i j u : ℕ) → Core z → Pairable z i j u → Later f z → Later f (pair z c 1 i j u)
+  later-one f z c i j u r p w = record {
+    since = since-pair b z c i j u s r p;
+    same = λ k h o. same (w .over) k h o ∙ w .same k h o;
+    over = over (w .over);
+  }
+    where
+      s : Since b z
+      s = w .since
+
+      q : Paired z 1 i j u (pair z c 1 i j u)
+      q = pair-core z c 1 i j u (omega arith) p r
+
+      same : Over z → (k : ℕ) → k < n → account-at b k .overseas ≡ true → gave b (pair z c 1 i j u) k ≡ gave b z k
+      same (inl o) k h e = gave-other b z c i j u s r p k (λ y. omega (arith, o k h e, pairable-long p k, ap (only i u) y, only-here i u, p .some))
+      same (inr o) k h e = gave-nothing b z c i j u s r p (omega (arith, o j (omega (arith, p .seller-there, s .accounts)), pairable-short p j, only-here j u, p .some)) k
+
+      over : Over z → Over (pair z c 1 i j u)
+      over (inl o) = inl (λ k h e. omega (arith, paired-long p q r k, o k h e))
+      over (inr o) = inr (λ k h. omega (arith, paired-short p q r k, free-pair b z c i j u s r p bonded-only k, o k h))
+
+  -- ---- the whole of Close
+
+  passes-hold : b .board ≡ false → b .«match_count» ≤ 64 → Core b → FirstPass b (all-passes b)
+  unfolding all-passes
+  passes-hold nb m r =
+      let f = first-pass b in
+      let d = first-done nb m r in
+      let w = d .kept in
+      let v = w .giving in
+      let l = later-keep (Later f) (later-one f) (b .«match_count») f m (d .high-count) (d .core) (record { since = v .since; same = λ k h o. refl; over = w .over }) .kept in
+      record {
+        lesser = out-same f (third-pass (second-pass f)) (l .same) ∙ walked-lesser w;
+        older-filled = λ k m o p g h.
+            let x = l .same k (o .there) (and-left (account-at b k .overseas) _ (o .overseas-and-long)) in
+            omega (arith, l .same m (p .there) (and-left (account-at b m .overseas) _ (p .overseas-and-long)), v .filled m (p .there) (p .overseas-and-long), v .older k m (p .there) (p .overseas-and-long) (omega arith) h);
+      }
+
+-- in a board book there is nothing to give
+no-receipts : (b e : Book) (k : ℕ) → b .«receipt_count» ≡ 0 → gave b e k ≡ 0
+unfolding gave
+no-receipts b e k h = tally-none _ (b .«receipt_count») 0 (λ i x y. absurd (omega arith))
+
+board-none : (b : Book) → b .board ≡ true → bonded-units-offered b ≡ 0
+unfolding bonded-units-offered
+board-none b q = by-pick (λ (v : ℕ). v ≡ 0) (b .board) (λ e. refl) (λ e. cc)
+
+board-holds : (b e : Book) → b .board ≡ true → Core b → FirstPass b e
+board-holds b e q r =
+    let none : (k : ℕ) → gave b e k ≡ 0 = λ k. no-receipts b e k (r .receipts .none q) in
+    record { lesser = omega (arith, out-none b e none, board-none b q); older-filled = λ k l o p g h. absurd (omega (arith, none k)) }
+
+-- the demand reads the receipts and the matches
+lapse-gave : (b z : Book) (k : ℕ) → gave b (with-open (lapse-offers z) false) k ≡ gave b z k
+unfolding gave lapse-offers
+lapse-gave b z k = tally-same _ _ (b .«receipt_count») 0 (λ i x y. ap (λ (t : Bool). receipt-at b i .bonded && is-free (receipt-at b i .state) && t) (go (receipt-at z i .state)))
+  where
+    go : (s : ReceiptState) → frozen-for-buyer (with-open (lapse-offers z) false) k s ≡ frozen-for-buyer z k s
+    go ReceiptState.Free = refl
+    go (ReceiptState.Frozen j) = refl
+    go ReceiptState.Struck = refl
+
+lapse-holds : (b z : Book) → FirstPass b z → FirstPass b (with-open (lapse-offers z) false)
+lapse-holds b z f = record {
+  lesser = out-same b z (with-open (lapse-offers z) false) (λ k h o. lapse-gave b z k) ∙ f .lesser;
+  older-filled = λ k l o p g h. lapse-gave b z l ∙ f .older-filled k l o p (omega (arith, lapse-gave b z k)) h;
+}
+
+-- an accepted Close is of an open market
+record Shut (b : Book) (o : Outcome) : Type 0 where
+  is-open : b .«open» ≡ true
+  left : o .book ≡ with-open (lapse-offers (all-passes b)) false
+
+accepted : {b : Book} {o : Outcome} → Answered b Call.Close o → is-accepted (o .answer) ≡ true → Shut b o
+accepted (Answered.refused n) h = absurd (let z : _≡_ {A = ℕ} 0 1 = cc in omega arith)
+accepted (Answered.closes g) h = record { is-open = g .is-open; left = refl }
+
+-- the first pass of an accepted Close gave out the lesser of the two, and filled older positions first
+pub first-pass-holds : (b : Book) → SoundTables b → accepts b Call.Close ≡ true → FirstPass b (step b Call.Close .book)
+first-pass-holds b t a =
+    let c = accepted (answered b Call.Close) a in
+    subst (FirstPass b) (sym (c .left)) (lapse-holds b (all-passes b) (go (b .board) refl (t .matches-open (c .is-open))))
+  where
+    go : (k : Bool) → b .board ≡ k → b .«match_count» ≤ 64 → FirstPass b (all-passes b)
+    go true q m = board-holds b (all-passes b) q (t .core)
+    go false q m = passes-hold b q m (t .core)

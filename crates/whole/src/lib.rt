@@ -1,0 +1,1 @@
+// Laws of signed sums, in specs/; this crate has no code.
