@@ -1,0 +1,287 @@
+// The opening of a book, and calls 1 to 4 and 11: Join, Deposit, Withdraw, Trade, Day.
+ghost use mathlib.Core.Path.{_≡_};
+ghost use Prim.Native.Nat.{_≤_, _<_};
+ghost use Rattle.book.specs.Answers.{refuse};
+ghost use Rattle.book.specs.Opening.{no-book, opening, next-day};
+ghost use Rattle.book.specs.Accounts.{join, deposit, withdraw, trade-rows, trade};
+ghost use Rattle.book.specs.Lists.{Reached};
+use book::Answer;
+use book::Book;
+use book::Outcome;
+use book::Side;
+
+// "a refused opening makes no book; where code must hand a value back beside it, that is the book of `0 0 1 0 1`"
+fn no_opening() -> Outcome
+    ensures { λ r. ⌜ r ≡ refuse 1 no-book ⌝ }
+{
+    let book = Book::fresh(false, 1, 0, 1);
+    Outcome {
+        answer: Answer::Refused(1),
+        book,
+    }
+}
+
+// "kind (0 receipts, 1 board), T tonnes per unit 1..20,000, default rate R 0..100 percent, price 1..1,000,000 fen/t"
+pub fn opening(kind: u64, tonnes: u64, rate: u64, price: u64) -> Outcome
+    ensures { λ r. ⌜ r ≡ opening kind tonnes rate price ⌝ }
+{
+    if 1 < kind {
+        return no_opening();
+    }
+    if tonnes < 1 {
+        return no_opening();
+    }
+    if 20_000 < tonnes {
+        return no_opening();
+    }
+    if 100 < rate {
+        return no_opening();
+    }
+    if price < 1 {
+        return no_opening();
+    }
+    if 1_000_000 < price {
+        return no_opening();
+    }
+    let book = Book::fresh(kind == 1, tonnes, rate, price);
+    Outcome {
+        answer: Answer::Accepted(0),
+        book,
+    }
+}
+
+// "11 Day price: day + 1; carries the new day."
+pub fn next_day(book: Book, price: u64) -> Outcome
+    ensures { λ r. ⌜ r ≡ next-day book price ⌝ }
+{
+    let day = book.day;
+    if price < 1 {
+        return Outcome {
+            answer: Answer::Refused(1),
+            book,
+        };
+    }
+    if 1_000_000 < price {
+        return Outcome {
+            answer: Answer::Refused(1),
+            book,
+        };
+    }
+    if 1_000 <= day {
+        return Outcome {
+            answer: Answer::Refused(2),
+            book,
+        };
+    }
+    let mut next = book;
+    next.price = price;
+    next.day = day + 1;
+    Outcome {
+        answer: Answer::Accepted(day + 1),
+        book: next,
+    }
+}
+
+// "1 Join residence, fitness; carries the account number."
+pub fn join(book: Book, residence: u64, fitness: u64) -> Outcome
+    ensures { λ r. ⌜ r ≡ join book residence fitness ⌝ }
+{
+    let k = book.account_count;
+    if Book::ACCOUNTS <= k {
+        return Outcome {
+            answer: Answer::Refused(3),
+            book,
+        };
+    }
+    if 1 < residence {
+        return Outcome {
+            answer: Answer::Refused(8),
+            book,
+        };
+    }
+    if 1 < fitness {
+        return Outcome {
+            answer: Answer::Refused(8),
+            book,
+        };
+    }
+    let mut next = book;
+    next.accounts[k] = rows::new_account(residence, fitness);
+    next.account_count = k + 1;
+    Outcome {
+        answer: Answer::Accepted(k as u64),
+        book: next,
+    }
+}
+
+// "2 Deposit account, amount: cash up by it."
+pub fn deposit(book: Book, account: u64, amount: u64) -> Outcome
+    requires { ⌜ Reached book ⌝ }
+    ensures { λ r. ⌜ r ≡ deposit book account amount ⌝ }
+{
+    let deposited = book.deposited;
+    if book.account_count as u64 <= account {
+        return Outcome {
+            answer: Answer::Refused(6),
+            book,
+        };
+    }
+    if amount < 1 {
+        return Outcome {
+            answer: Answer::Refused(8),
+            book,
+        };
+    }
+    if 1_000_000_000_000_000 < amount {
+        return Outcome {
+            answer: Answer::Refused(8),
+            book,
+        };
+    }
+    if 100_000_000_000_000_000 < deposited + amount {
+        return Outcome {
+            answer: Answer::Refused(25),
+            book,
+        };
+    }
+    let k = account as usize;
+    let a = book.accounts[k];
+    let mut next = book;
+    next.deposited = deposited + amount;
+    next.accounts[k] = rows::credited(a, amount);
+    Outcome {
+        answer: Answer::Accepted(0),
+        book: next,
+    }
+}
+
+// "3 Withdraw account, amount: cash down by it."
+pub fn withdraw(book: Book, account: u64, amount: u64) -> Outcome
+    requires { ⌜ Reached book ⌝ }
+    ensures { λ r. ⌜ r ≡ withdraw book account amount ⌝ }
+{
+    if book.account_count as u64 <= account {
+        return Outcome {
+            answer: Answer::Refused(6),
+            book,
+        };
+    }
+    if amount < 1 {
+        return Outcome {
+            answer: Answer::Refused(8),
+            book,
+        };
+    }
+    if 1_000_000_000_000_000 < amount {
+        return Outcome {
+            answer: Answer::Refused(8),
+            book,
+        };
+    }
+    let k = account as usize;
+    let a = book.accounts[k];
+    if rows::cash_below(a, amount) {
+        return Outcome {
+            answer: Answer::Refused(11),
+            book,
+        };
+    }
+    let mut next = book;
+    next.accounts[k] = rows::debited(a, amount);
+    Outcome {
+        answer: Answer::Accepted(0),
+        book: next,
+    }
+}
+
+// Trade, where the two accounts are there: refusals 9 and 10, and the units.
+fn trade_rows(book: Book, buyer: u64, seller: u64, units: u64) -> Outcome
+    requires { ⌜ Reached book ⌝ }
+    requires { ⌜ buyer < book .«account_count» ⌝ }
+    requires { ⌜ seller < book .«account_count» ⌝ }
+    requires { ⌜ (buyer ≡ seller → ⊥) ⌝ }
+    requires { ⌜ units ≤ 1_000 ⌝ }
+    ensures { λ r. ⌜ r ≡ trade-rows book buyer seller units ⌝ }
+{
+    let i = buyer as usize;
+    let j = seller as usize;
+    let bought = book.accounts[i];
+    let sold = book.accounts[j];
+    if rows::is_short(bought) {
+        return Outcome {
+            answer: Answer::Refused(9),
+            book,
+        };
+    }
+    if rows::is_long(sold) {
+        return Outcome {
+            answer: Answer::Refused(9),
+            book,
+        };
+    }
+    if rows::would_pass(bought, units) {
+        return Outcome {
+            answer: Answer::Refused(10),
+            book,
+        };
+    }
+    if rows::would_pass(sold, units) {
+        return Outcome {
+            answer: Answer::Refused(10),
+            book,
+        };
+    }
+    let day = book.day;
+    let mut next = book;
+    next.accounts[i] = rows::units_on(bought, Side::Long, units, day);
+    next.accounts[j] = rows::units_on(sold, Side::Short, units, day);
+    Outcome {
+        answer: Answer::Accepted(0),
+        book: next,
+    }
+}
+
+// "4 Trade buyer, seller, units: adds units long to one and short to the other."
+pub fn trade(book: Book, buyer: u64, seller: u64, units: u64) -> Outcome
+    requires { ⌜ Reached book ⌝ }
+    ensures { λ r. ⌜ r ≡ trade book buyer seller units ⌝ }
+{
+    let count = book.account_count as u64;
+    if !book.open {
+        return Outcome {
+            answer: Answer::Refused(5),
+            book,
+        };
+    }
+    if count <= buyer {
+        return Outcome {
+            answer: Answer::Refused(6),
+            book,
+        };
+    }
+    if count <= seller {
+        return Outcome {
+            answer: Answer::Refused(6),
+            book,
+        };
+    }
+    if buyer == seller {
+        return Outcome {
+            answer: Answer::Refused(7),
+            book,
+        };
+    }
+    if units < 1 {
+        return Outcome {
+            answer: Answer::Refused(8),
+            book,
+        };
+    }
+    if 1_000 < units {
+        return Outcome {
+            answer: Answer::Refused(8),
+            book,
+        };
+    }
+    trade_rows(book, buyer, seller, units)
+}

@@ -1,0 +1,167 @@
+// Calls 7 to 9: Declare, Offer, Retract.
+ghost use mathlib.Core.Path.{_≡_};
+ghost use mathlib.Core.Bool.{_&&_};
+ghost use Prim.Native.Nat.{_≤_, _<_};
+ghost use Rattle.book.specs.Rows.{heat-missing};
+ghost use Rattle.book.specs.Offers.{declare, offer-row, offer, retract};
+ghost use Rattle.book.specs.Lists.{Reached};
+use book::Account;
+use book::Answer;
+use book::Book;
+use book::Outcome;
+
+// "7 Declare account, heat 4,300..10,000; replaces an earlier one."
+pub fn declare(book: Book, account: u64, heat: u64) -> Outcome
+    requires { ⌜ Reached book ⌝ }
+    ensures { λ r. ⌜ r ≡ declare book account heat ⌝ }
+{
+    if !book.board {
+        return Outcome {
+            answer: Answer::Refused(4),
+            book,
+        };
+    }
+    if book.account_count as u64 <= account {
+        return Outcome {
+            answer: Answer::Refused(6),
+            book,
+        };
+    }
+    if heat < 4_300 {
+        return Outcome {
+            answer: Answer::Refused(8),
+            book,
+        };
+    }
+    if 10_000 < heat {
+        return Outcome {
+            answer: Answer::Refused(8),
+            book,
+        };
+    }
+    let k = account as usize;
+    let a = book.accounts[k];
+    let mut next = book;
+    next.accounts[k] = rows::with_heat(a, heat);
+    Outcome {
+        answer: Answer::Accepted(0),
+        book: next,
+    }
+}
+
+// "board book, heat missing": whether an account lacks the heat that a board book asks for.
+fn lacks_heat(board: bool, a: Account) -> bool
+    ensures { λ r. ⌜ r ≡ board && heat-missing (a .heat) ⌝ }
+{
+    let heat = a.heat;
+    if board {
+        return rows::heat_missing(heat);
+    }
+    false
+}
+
+// Offer, where the account is there and the units are in range: refusals 12 to 19, and the offer.
+fn offer_row(book: Book, seller: u64, units: u64) -> Outcome
+    requires { ⌜ Reached book ⌝ }
+    requires { ⌜ seller < book .«account_count» ⌝ }
+    requires { ⌜ units ≤ 1_000 ⌝ }
+    ensures { λ r. ⌜ r ≡ offer-row book seller units ⌝ }
+{
+    let k = seller as usize;
+    let a = book.accounts[k];
+    if !rows::offer_missing(a) {
+        return Outcome {
+            answer: Answer::Refused(12),
+            book,
+        };
+    }
+    if rows::short_units(a) < units {
+        return Outcome {
+            answer: Answer::Refused(14),
+            book,
+        };
+    }
+    if receipts::lacks_receipts(book.board, book.receipts, book.receipt_count, seller, units) {
+        return Outcome {
+            answer: Answer::Refused(15),
+            book,
+        };
+    }
+    if lacks_heat(book.board, a) {
+        return Outcome {
+            answer: Answer::Refused(19),
+            book,
+        };
+    }
+    let mut next = book;
+    next.accounts[k] = rows::with_units_offered(a, units);
+    Outcome {
+        answer: Answer::Accepted(0),
+        book: next,
+    }
+}
+
+// "8 Offer seller, units."
+pub fn offer(book: Book, seller: u64, units: u64) -> Outcome
+    requires { ⌜ Reached book ⌝ }
+    ensures { λ r. ⌜ r ≡ offer book seller units ⌝ }
+{
+    if !book.open {
+        return Outcome {
+            answer: Answer::Refused(5),
+            book,
+        };
+    }
+    if book.account_count as u64 <= seller {
+        return Outcome {
+            answer: Answer::Refused(6),
+            book,
+        };
+    }
+    if units < 1 {
+        return Outcome {
+            answer: Answer::Refused(8),
+            book,
+        };
+    }
+    if 1_000 < units {
+        return Outcome {
+            answer: Answer::Refused(8),
+            book,
+        };
+    }
+    offer_row(book, seller, units)
+}
+
+// "9 Retract seller."
+pub fn retract(book: Book, seller: u64) -> Outcome
+    requires { ⌜ Reached book ⌝ }
+    ensures { λ r. ⌜ r ≡ retract book seller ⌝ }
+{
+    if !book.open {
+        return Outcome {
+            answer: Answer::Refused(5),
+            book,
+        };
+    }
+    if book.account_count as u64 <= seller {
+        return Outcome {
+            answer: Answer::Refused(6),
+            book,
+        };
+    }
+    let k = seller as usize;
+    let a = book.accounts[k];
+    if rows::offer_missing(a) {
+        return Outcome {
+            answer: Answer::Refused(13),
+            book,
+        };
+    }
+    let mut next = book;
+    next.accounts[k] = rows::with_offer_ended(a);
+    Outcome {
+        answer: Answer::Accepted(0),
+        book: next,
+    }
+}

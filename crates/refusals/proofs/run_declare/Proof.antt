@@ -1,0 +1,13 @@
+-- Declare leaves a reached book: it is a step of the machine. Assumes nothing.
+use borrow.Author.Needs.{needs}
+use Rattle.book.specs.declared.Call.{Call}
+use Rattle.book.specs.Calls.{step}
+use Rattle.book.specs.Lists.{called}
+use Rattle.refusals.proofs.run_declare.Statement.{statement}
+use Rattle.refusals.proofs.run_declare.Tie as tie
+
+pub run-declare-spec : {M : Type 1} → statement M
+unfolding step
+run-declare-spec =
+    tie.close
+    (tie.spec (λ c κs. search needs) (λ c. rw (c .declare .ensures) (called (Call.Declare _ _) (c .before .pre))))

@@ -1,0 +1,13 @@
+-- Deposit leaves a reached book: it is a step of the machine. Assumes nothing.
+use borrow.Author.Needs.{needs}
+use Rattle.book.specs.declared.Call.{Call}
+use Rattle.book.specs.Calls.{step}
+use Rattle.book.specs.Lists.{called}
+use Rattle.refusals.proofs.run_deposit.Statement.{statement}
+use Rattle.refusals.proofs.run_deposit.Tie as tie
+
+pub run-deposit-spec : {M : Type 1} → statement M
+unfolding step
+run-deposit-spec =
+    tie.close
+    (tie.spec (λ c κs. search needs) (λ c. rw (c .deposit .ensures) (called (Call.Deposit _ _) (c .before .pre))))

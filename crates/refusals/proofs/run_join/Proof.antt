@@ -1,0 +1,13 @@
+-- Join leaves a reached book: it is a step of the machine. Assumes nothing.
+use borrow.Author.Needs.{needs}
+use Rattle.book.specs.declared.Call.{Call}
+use Rattle.book.specs.Calls.{step}
+use Rattle.book.specs.Lists.{called}
+use Rattle.refusals.proofs.run_join.Statement.{statement}
+use Rattle.refusals.proofs.run_join.Tie as tie
+
+pub run-join-spec : {M : Type 1} → statement M
+unfolding step
+run-join-spec =
+    tie.close
+    (tie.spec (λ c κs. search needs) (λ c. rw (c .join .ensures) (called (Call.Join _ _) (c .before .pre))))

@@ -1,0 +1,13 @@
+-- Retract leaves a reached book: it is a step of the machine. Assumes nothing.
+use borrow.Author.Needs.{needs}
+use Rattle.book.specs.declared.Call.{Call}
+use Rattle.book.specs.Calls.{step}
+use Rattle.book.specs.Lists.{called}
+use Rattle.refusals.proofs.run_retract.Statement.{statement}
+use Rattle.refusals.proofs.run_retract.Tie as tie
+
+pub run-retract-spec : {M : Type 1} → statement M
+unfolding step
+run-retract-spec =
+    tie.close
+    (tie.spec (λ c κs. search needs) (λ c. rw (c .retract .ensures) (called (Call.Retract _) (c .before .pre))))

@@ -1,0 +1,28 @@
+-- `units_off` meets its contract, by whether any units are left. Assumes nothing.
+use mathlib.Core.Path.{_≡_}
+use mathlib.Core.Bool.{false}
+use native.Mathlib.Omega.{arith}
+use borrow.Author.Tests.{ne-eqb}
+use Prim.Native.Nat.{ℕ, _-_, _≤_, _<_}
+use lib.Dec.{eqb}
+use borrow.Author.Needs.{needs}
+use Rattle.rows.proofs.units_off.Statement.{statement}
+use Rattle.rows.proofs.units_off.Tie as tie
+
+none-left : (n i : ℕ) → n ≤ i → n - i ≡ 0
+none-left n i h = omega arith
+
+some-left : (n i : ℕ) → i < n → eqb (n - i) 0 ≡ false
+some-left n i h = ne-eqb (n - i) 0 (λ (e : n - i ≡ 0). omega arith)
+
+pub units-off-spec : {M : Type 1} → statement M
+units-off-spec =
+    tie.close
+    (tie.spec
+    (λ c. search needs)
+    (λ c κs. search needs)
+    (λ c. rw (c .with-position .ensures, none-left _ _ (c .before .if1 .taken)))
+    (λ c. search needs)
+    (λ c. search needs)
+    (λ c κs. search needs)
+    (λ c. rw (c .with-position2 .ensures, some-left _ _ (c .before .before .if1 .left))))

@@ -1,0 +1,3 @@
+pub mod Needs
+pub mod Chain
+pub mod Loops
