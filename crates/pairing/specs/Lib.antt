@@ -1,0 +1,2 @@
+pub mod Freezing
+pub mod Take

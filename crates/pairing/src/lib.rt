@@ -1,0 +1,156 @@
+// Pairing, and call 10: Take.
+ghost use mathlib.Core.Path.{_≡_};
+ghost use Prim.Native.Nat.{_≤_, _<_, _+_};
+ghost use Rattle.book.specs.Counting.{iter};
+ghost use Rattle.book.specs.Pairing.{freeze-turn, pair};
+ghost use Rattle.book.specs.Offers.{take-up, take-offer};
+ghost use Rattle.book.specs.Lists.{Reached};
+use book::Answer;
+use book::Book;
+use book::Freezing;
+use book::Outcome;
+use book::Receipt;
+
+// "freezes the seller's lowest-numbered free receipts, as many as the units or as there are"; it stops once none is left to freeze.
+fn freeze(
+    receipts: [Receipt; Book::RECEIPTS],
+    count: usize,
+    bonded: bool,
+    seller: u64,
+    number: u64,
+    units: u64,
+) -> [Receipt; Book::RECEIPTS]
+    requires { ⌜ count ≤ 256 ⌝ }
+    requires { ⌜ number < 128 ⌝ }
+    ensures { λ r. ⌜ r ≡ iter count 0 (freeze-turn bonded seller number) (record { receipts = receipts; left = units }) .receipts ⌝ }
+{
+    let mut t = Freezing {
+        receipts,
+        left: units,
+    };
+    for i in 0..count {
+        if t.left == 0 {
+            return t.receipts;
+        }
+        let receipt = t.receipts[i];
+        if rows::is_free_of(receipt, bonded, seller) {
+            t.receipts[i] = rows::frozen_for(receipt, number);
+            t.left -= 1;
+        }
+    }
+    t.receipts
+}
+
+// "takes the units off both sides; .. In a receipts book it freezes the seller's lowest-numbered free receipts": the next match, due in some days.
+pub fn pair(book: Book, bonded_only: bool, days: u64, buyer: u64, seller: u64, units: u64) -> Book
+    requires { ⌜ buyer < 32 ⌝ }
+    requires { ⌜ seller < 32 ⌝ }
+    requires { ⌜ units < 65_536 ⌝ }
+    requires { ⌜ book .price ≤ 1_000_000 ⌝ }
+    requires { ⌜ book .day + days ≤ 10_000 ⌝ }
+    requires { ⌜ book .«receipt_count» ≤ 256 ⌝ }
+    requires { ⌜ book .«match_count» < 128 ⌝ }
+    ensures { λ r. ⌜ r ≡ pair book «bonded_only» days buyer seller units ⌝ }
+{
+    let number = book.match_count;
+    let i = buyer as usize;
+    let j = seller as usize;
+    let mut next = book;
+    let a = next.accounts[j];
+    let heat = a.heat;
+    next.matches[number] = rows::new_match(buyer, seller, units, next.price, next.day + days, heat);
+    next.match_count = number + 1;
+    next.accounts[i] = rows::units_off(next.accounts[i], units);
+    next.accounts[j] = rows::units_off(next.accounts[j], units);
+    if next.board {
+        return next;
+    }
+    let receipts = next.receipts;
+    next.receipts = freeze(
+        receipts,
+        next.receipt_count,
+        bonded_only,
+        seller,
+        number as u64,
+        units,
+    );
+    next
+}
+
+// Take, where buyer and seller are there and so many units are offered.
+fn take_up(book: Book, buyer: u64, seller: u64, units: u64) -> Outcome
+    requires { ⌜ buyer < 32 ⌝ }
+    requires { ⌜ seller < 32 ⌝ }
+    requires { ⌜ units ≤ 1_000 ⌝ }
+    requires { ⌜ Reached book ⌝ }
+    ensures { λ r. ⌜ r ≡ take-up book buyer seller units ⌝ }
+{
+    let number = book.match_count;
+    let i = buyer as usize;
+    let j = seller as usize;
+    if rows::long_units(book.accounts[i]) < units {
+        return Outcome {
+            answer: Answer::Refused(14),
+            book,
+        };
+    }
+    if receipts::lacks_receipts(book.board, book.receipts, book.receipt_count, seller, units) {
+        return Outcome {
+            answer: Answer::Refused(15),
+            book,
+        };
+    }
+    if Book::TAKE_MATCHES <= number {
+        return Outcome {
+            answer: Answer::Refused(20),
+            book,
+        };
+    }
+    let mut next = pair(book, false, 2, buyer, seller, units);
+    next.accounts[j] = rows::with_offer_ended(next.accounts[j]);
+    Outcome {
+        answer: Answer::Accepted(number as u64),
+        book: next,
+    }
+}
+
+// "10 Take buyer, seller: the whole offer becomes a match due in 2 days; the offer ends; carries the match number."
+pub fn take_offer(book: Book, buyer: u64, seller: u64) -> Outcome
+    requires { ⌜ Reached book ⌝ }
+    ensures { λ r. ⌜ r ≡ take-offer book buyer seller ⌝ }
+{
+    let count = book.account_count as u64;
+    if !book.open {
+        return Outcome {
+            answer: Answer::Refused(5),
+            book,
+        };
+    }
+    if count <= buyer {
+        return Outcome {
+            answer: Answer::Refused(6),
+            book,
+        };
+    }
+    if count <= seller {
+        return Outcome {
+            answer: Answer::Refused(6),
+            book,
+        };
+    }
+    if buyer == seller {
+        return Outcome {
+            answer: Answer::Refused(7),
+            book,
+        };
+    }
+    let j = seller as usize;
+    let a = book.accounts[j];
+    if rows::offer_missing(a) {
+        return Outcome {
+            answer: Answer::Refused(13),
+            book,
+        };
+    }
+    take_up(book, buyer, seller, rows::offer_units(a))
+}
