@@ -37,6 +37,9 @@ module _ (b : Book) (r : Reached b) where
   pub fund-small : b .fund ≤ 1_000_000_000_000_000_000
   fund-small = omega (arith, s .fund-few)
 
+  pub accounts-few : b .«account_count» ≤ 32
+  accounts-few = s .tables .core .accounts .few
+
   pub receipts-few : b .«receipt_count» ≤ 256
   receipts-few = s .tables .core .receipts .few
 
@@ -45,7 +48,7 @@ module _ (b : Book) (r : Reached b) where
 
   -- a row that is there lies within its table, and so does its place in bytes
   pub account-there : (k : ℕ) → k < b .«account_count» → k < 32
-  account-there k h = omega (arith, s .tables .core .accounts .few)
+  account-there k h = omega (arith, accounts-few)
 
   pub account-place : (k : ℕ) → k < b .«account_count» → Fits w64 (k * 24)
   account-place k h = record { fits = omega (arith, account-there k h) }
@@ -77,4 +80,4 @@ module _ (b : Book) (r : Reached b) where
   pub match-price-small : (j : ℕ) → j < b .«match_count» → match-at b j .price ≤ 1_000_000
   match-price-small j h = s .tables .core .matches .rows j h .price-high
 
-pub ruleset calls = (account-there, account-place, receipt-there, receipt-place, match-there, match-place, buyer-there, seller-there, held-small, match-units-small, match-price-small, tonnes-small, rate-small, price-small, day-small, deposits-fit, cash-small, fund-small, receipts-few, matches-few, le-ltb, lt-ltb, le-leb, lt-leb, eq-eqb, ne-eqb, needs)
+pub ruleset calls = (account-there, account-place, receipt-there, receipt-place, match-there, match-place, buyer-there, seller-there, held-small, match-units-small, match-price-small, tonnes-small, rate-small, price-small, day-small, deposits-fit, cash-small, fund-small, accounts-few, receipts-few, matches-few, le-ltb, lt-ltb, le-leb, lt-leb, eq-eqb, ne-eqb, needs)

@@ -1,0 +1,69 @@
+// Replays stored sessions and compares every byte: the arguments are the names of an input and of its output, in turn.
+ghost use mathlib.Core.Path.{_≡_};
+ghost use Prim.Native.Nat.{_+_, _^_, _<_, _≤_};
+ghost use lib.ListN.{length};
+ghost use Rattle.io.specs.Counts.{Counts};
+
+fn input_buffer() -> [u8; 65537]
+    ensures { λ r. ⌜ 65537 ≡ length r ⌝ }
+{
+    [0; 65537]
+}
+
+fn output_buffer() -> [u8; 829611]
+    ensures { λ r. ⌜ 829611 ≡ length r ⌝ }
+{
+    [0; 829611]
+}
+
+// Reads a file's first bytes into a buffer, and answers how many there are; a file that cannot be read has none.
+fn load(name: &[u8], buf: &mut [u8]) -> usize
+    ensures { λ r. ⌜ Counts r (now (buf .exit)) ⌝ }
+{
+    let fd = os::open_read(name);
+    if fd < 0 {
+        os::fail(name);
+        return 0;
+    }
+    let n = io::read_full(fd, buf);
+    libc::close(fd);
+    n
+}
+
+// Whether the session of an input is the output that is stored for it.
+fn agrees(input_name: &[u8], output_name: &[u8]) -> bool {
+    let mut input = input_buffer();
+    let n = load(input_name, &mut input);
+    let mut stored = output_buffer();
+    let k = load(output_name, &mut stored);
+    let mut out = output_buffer();
+    let r = session::session(&input[..n], &mut out);
+    check::same(&out[..r], &stored[..k])
+}
+
+// The session that two arguments name: 1 where it agrees, else 0, with its name on a line.
+fn replayed(i: usize) -> u64
+    requires { ⌜ i + 1 < 2 ^ 64 ⌝ }
+    ensures { λ r. ⌜ r ≤ 1 ⌝ }
+{
+    let mut input_name = [0u8; 64];
+    let mut output_name = [0u8; 64];
+    let a = os::arg(i, &mut input_name);
+    let b = os::arg(i + 1, &mut output_name);
+    if agrees(&input_name[..a], &output_name[..b]) {
+        return 1;
+    }
+    io::write_all(1, &input_name[..a]);
+    io::write_all(1, b" differs\n");
+    0
+}
+
+fn main() {
+    let count = os::arg_count();
+    let mut agreed: u64 = 0;
+    for j in 0..count / 2 {
+        agreed += replayed(2 * j + 1);
+    }
+    io::print_decimal(1, agreed);
+    io::write_all(1, b" sessions agree\n");
+}

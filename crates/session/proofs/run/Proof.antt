@@ -1,0 +1,55 @@
+-- `run` meets its contract: the loop goes line by line, and who writes what is told from there on has written all. Assumes nothing.
+use mathlib.Core.Path.{_≡_, refl}
+use Prim.Native.Nat.{ℕ, _-_, _≤_, _<_}
+use native.Mathlib.Omega.{arith}
+use borrow.Author.Needs.{needs}
+use lib.ListN.{length}
+use denote.Ref.{now}
+use Rattle.text.proofs.Cutting.{end-past, end-within}
+use Rattle.session.proofs.Running.{Running, turn, ended}
+use Rattle.book.specs.laws.Reaching.{sound}
+use Rattle.session.proofs.run.Statement.{statement}
+use Rattle.session.proofs.run.Tie as tie
+
+abbrev Inv-loop : tie.InvT-loop
+Inv-loop s from out₀ at next₀ i₀ w₀ out next i w = Running s next₀ from at out₀ out next i w
+
+abbrev μ-loop : tie.MeasureT-loop
+μ-loop s from out₀ at next₀ i₀ w₀ out next i w = length s - i
+
+-- a line's end lies past its start and within the text
+past : (c : tie.After-line-end Inv-loop μ-loop) → c .before .before .loop .i < c .line-end .result
+past c = end-past (now (c .before .before .before .before .before .args .s)) _ _ (c .before .loop-test .taken) (c .line-end .ensures)
+
+inside : (c : tie.After-line-end Inv-loop μ-loop) → c .line-end .result ≤ length (now (c .before .before .before .before .before .args .s))
+inside c = end-within (now (c .before .before .before .before .before .args .s)) _ _ (c .before .loop-test .taken) (c .line-end .ensures)
+
+pub run-spec : {M : Type 1} → statement M
+run-spec =
+    tie.close
+    (tie.spec
+    Inv-loop
+    μ-loop
+    (λ c. record { within = search needs; room = search needs; reached = search needs; long = refl; on = λ z r p. p })
+    (λ c κs. search needs)
+    (λ c. omega (arith, past c))
+    (λ c. omega (arith, past c, inside c))
+    (λ c. omega (arith, past c, inside c))
+    (λ c κs. search needs)
+    (λ c κs. search needs)
+    (λ c κs. search needs)
+    (λ c. let d = c .before .before .before .before .before .before .before .before in omega (arith, past d, inside d))
+    (λ c.
+    let d = c .before .before .before .before .before .before .before .before in
+    let put = c .before .before .before .put-answer in
+    let said = c .before .before .before .before .before .reply in
+    let read = c .before .before .before .before .before .before .read-line in
+    turn (d .before .before .loop .inv) (d .before .loop-test .taken) (d .line-end .ensures) _ (read .ensures) _ (said .ensures) _ _ (put .ensures .0) (put .ensures .1) (put .kept .0))
+    (λ c κs.
+    let inv = c .before .before .loop .inv in
+    let rows = sound (inv .reached) .tables .core in
+    (search needs, rows .accounts .few, rows .receipts .few, rows .matches .few))
+    (λ c. search needs)
+    (λ c.
+    let at-end = c .before .before .before .before in
+    ended (at-end .before .loop .inv) (at-end .loop-test .left) (c .before .before .put-ledger .ensures .0)))

@@ -1,0 +1,14 @@
+-- `seller_lacks` meets its contract, by the kind of book. Assumes nothing.
+use borrow.Author.Needs.{needs}
+use Rattle.rows.specs.Chain.{pick-false}
+use Rattle.settlement.proofs.seller_lacks.Statement.{statement}
+use Rattle.settlement.proofs.seller_lacks.Tie as tie
+
+pub seller-lacks-spec : {M : Type 1} → statement M
+seller-lacks-spec =
+    tie.close
+    (tie.spec
+    (λ c κs. search needs)
+    (λ c. search needs)
+    (λ c. search needs)
+    (λ c. pick-false _ _ _ _ (c .before .if1 .left) (search needs)))

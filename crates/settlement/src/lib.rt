@@ -1,0 +1,473 @@
+// Calls 13 to 16: Settle, Measure, Invoice, Terminate.
+ghost use mathlib.Core.Path.{_≡_};
+ghost use mathlib.Core.Bool.{not, _||_};
+ghost use Prim.Native.Nat.{_≤_, _<_, _*_};
+ghost use lib.Dec.{ltb};
+ghost use Rattle.coal.specs.Choice.{pick};
+ghost use Rattle.coal.specs.Coal.{coal-price, coal-weight, amount};
+ghost use Rattle.book.specs.declared.Fault.{Fault};
+ghost use Rattle.book.specs.Counting.{iter, tally};
+ghost use Rattle.book.specs.Rows.{heat-missing, heat-value};
+ghost use Rattle.book.specs.Tables.{match-at, pay, charge, frozen-at};
+ghost use Rattle.book.specs.Settlement.{punish, release-turn, pass-turn, set-stage, buyer-fault, seller-fault, settle-receipts, settle-board, settle-ended, settled, settle, measured, measure, invoice, terminated, terminate};
+ghost use Rattle.book.specs.Lists.{Reached};
+ghost use Rattle.settlement.specs.Money.{most-paid, percent-of, Room, fined, Deal, Due};
+use book::Answer;
+use book::Book;
+use book::Fault;
+use book::Match;
+use book::Outcome;
+use book::Receipt;
+use book::Stage;
+use coal::rounding::percent_down;
+
+// ---- money and stage of a match
+
+// "V of a match = units × price × T."
+fn value(m: Match, tonnes: u64) -> u64
+    requires { ⌜ m .units ≤ 1_000 ⌝ }
+    requires { ⌜ m .price ≤ 1_000_000 ⌝ }
+    requires { ⌜ tonnes ≤ 20_000 ⌝ }
+    ensures { λ r. ⌜ r ≡ m .units * m .price * tonnes ⌝ }
+    ensures { λ r. ⌜ r ≤ most-paid ⌝ }
+{
+    m.units as u64 * m.price as u64 * tonnes
+}
+
+// The book with an amount paid to an account.
+fn pay(book: Book, account: u8, amount: u64) -> Book
+    requires { ⌜ account < 32 ⌝ }
+    requires { ⌜ Room 1 book ⌝ }
+    requires { ⌜ amount ≤ most-paid ⌝ }
+    ensures { λ r. ⌜ r ≡ pay book account amount ⌝ }
+{
+    let k = account as usize;
+    let a = book.accounts[k];
+    let mut next = book;
+    next.accounts[k] = rows::credited(a, amount);
+    next
+}
+
+// The book with an amount taken from an account.
+fn charge(book: Book, account: u8, amount: u64) -> Book
+    requires { ⌜ account < 32 ⌝ }
+    requires { ⌜ Room 1 book ⌝ }
+    requires { ⌜ amount ≤ most-paid ⌝ }
+    ensures { λ r. ⌜ r ≡ charge book account amount ⌝ }
+{
+    let k = account as usize;
+    let a = book.accounts[k];
+    let mut next = book;
+    next.accounts[k] = rows::debited(a, amount);
+    next
+}
+
+// The book with so much money held for a match, and the match at a stage.
+fn set_stage(book: Book, number: u64, held: u64, stage: Stage) -> Book
+    requires { ⌜ number < 128 ⌝ }
+    ensures { λ r. ⌜ r ≡ set-stage book number held stage ⌝ }
+{
+    let j = number as usize;
+    let m = book.matches[j];
+    let mut next = book;
+    next.matches[j] = rows::with_held(m, held, stage);
+    next
+}
+
+// ---- receipts of a match
+
+// Of the first receipts of a table, how many are frozen for a match.
+fn frozen_receipts(receipts: [Receipt; Book::RECEIPTS], count: usize, number: u64) -> u64
+    requires { ⌜ count ≤ 256 ⌝ }
+    ensures { λ r. ⌜ r ≡ tally count 0 (frozen-at receipts number) ⌝ }
+{
+    let mut frozen: u64 = 0;
+    for i in 0..count {
+        let r = receipts[i];
+        frozen = rows::counted(frozen, rows::is_frozen_for(r, number));
+    }
+    frozen
+}
+
+// "its receipts are free again"
+fn free_again(
+    receipts: [Receipt; Book::RECEIPTS],
+    count: usize,
+    number: u64,
+) -> [Receipt; Book::RECEIPTS]
+    requires { ⌜ count ≤ 256 ⌝ }
+    ensures { λ r. ⌜ r ≡ iter count 0 (release-turn number) receipts ⌝ }
+{
+    let mut next = receipts;
+    for i in 0..count {
+        let r = next[i];
+        next[i] = rows::released(r, number);
+    }
+    next
+}
+
+// "the receipts pass to the buyer, free"
+fn pass_receipts(
+    receipts: [Receipt; Book::RECEIPTS],
+    count: usize,
+    number: u64,
+    buyer: u64,
+) -> [Receipt; Book::RECEIPTS]
+    requires { ⌜ count ≤ 256 ⌝ }
+    requires { ⌜ buyer < 32 ⌝ }
+    ensures { λ r. ⌜ r ≡ iter count 0 (pass-turn number buyer) receipts ⌝ }
+{
+    let mut next = receipts;
+    for i in 0..count {
+        let r = next[i];
+        next[i] = rows::passed(r, number, buyer);
+    }
+    next
+}
+
+// ---- penalties
+
+// "One at fault pays the other; two at fault each pay the fund.": what one of them pays.
+fn fined(book: Book, payer: u8, other: u8, amount: u64, both: bool) -> Book
+    requires { ⌜ payer < 32 ⌝ }
+    requires { ⌜ other < 32 ⌝ }
+    requires { ⌜ amount ≤ most-paid ⌝ }
+    requires { ⌜ Room 2 book ⌝ }
+    ensures { λ r. ⌜ r ≡ fined both book payer other amount ⌝ }
+{
+    let mut next = charge(book, payer, amount);
+    if both {
+        next.fund = book.fund + amount;
+        return next;
+    }
+    pay(next, other, amount)
+}
+
+// "A penalty is that percent of V, down": x is the buyer's fault, y the seller's.
+fn punish(book: Book, m: Match, v: u64, x: Fault, y: Fault) -> Book
+    requires { ⌜ Deal book m v ⌝ }
+    requires { ⌜ Room 4 book ⌝ }
+    requires { ⌜ percent-of x ≤ 100 ⌝ }
+    requires { ⌜ percent-of y ≤ 100 ⌝ }
+    ensures { λ r. ⌜ r ≡ punish book m x y ⌝ }
+{
+    match x {
+        Fault::Faultless => match y {
+            Fault::Faultless => book,
+            Fault::Percent(q) => fined(book, m.seller, m.buyer, percent_down(q, v), false),
+        },
+        Fault::Percent(p) => match y {
+            Fault::Faultless => fined(book, m.buyer, m.seller, percent_down(p, v), false),
+            Fault::Percent(q) => {
+                let next = fined(book, m.buyer, m.seller, percent_down(p, v), true);
+                fined(next, m.seller, m.buyer, percent_down(q, v), true)
+            }
+        },
+    }
+}
+
+// "unfit (10%), else .. (R%)": the fault of a party that lacks something or not.
+fn fault(fit: bool, lacking: bool, rate: u64) -> Fault
+    requires { ⌜ rate ≤ 100 ⌝ }
+    ensures { λ r. ⌜ r ≡ pick (not fit) (Fault.Percent 10) (pick lacking (Fault.Percent rate) Fault.Faultless) ⌝ }
+    ensures { λ r. ⌜ percent-of r ≤ 100 ⌝ }
+{
+    if !fit {
+        return Fault::Percent(10);
+    }
+    if lacking {
+        return Fault::Percent(rate);
+    }
+    Fault::Faultless
+}
+
+// "receipts book with fewer frozen than units, or board book with heat missing": whether the seller lacks what it is to deliver.
+fn seller_lacks(m: Match, board: bool, frozen: u64) -> bool
+    ensures { λ r. ⌜ r ≡ pick board (heat-missing (m .heat)) (ltb frozen (m .units)) ⌝ }
+{
+    let heat = m.heat;
+    if board {
+        return rows::heat_missing(heat);
+    }
+    frozen < m.units as u64
+}
+
+// ---- Settle
+
+// "Board book: V is held; stage prepaid."
+fn settle_board(book: Book, number: u64, m: Match, v: u64) -> Book
+    requires { ⌜ Due book number m v ⌝ }
+    ensures { λ r. ⌜ r ≡ settle-board book number m v ⌝ }
+{
+    let paid = charge(book, m.buyer, v);
+    set_stage(paid, number, v, Stage::Prepaid)
+}
+
+// "Receipts book: seller gets 80% of V, down, the rest is held; the receipts pass to the buyer, free; stage held."
+fn settle_receipts(book: Book, number: u64, m: Match, v: u64) -> Book
+    requires { ⌜ Due book number m v ⌝ }
+    ensures { λ r. ⌜ r ≡ settle-receipts book number m v ⌝ }
+{
+    let first = percent_down(80, v);
+    let rest = v - first;
+    let receipts = book.receipts;
+    let passed = pass_receipts(receipts, book.receipt_count, number, m.buyer as u64);
+    let paid = charge(book, m.buyer, v);
+    let mut next = pay(paid, m.seller, first);
+    next.receipts = passed;
+    set_stage(next, number, rest, Stage::Held)
+}
+
+// "Then the match is ended and its receipts are free again."
+fn settle_ended(book: Book, number: u64, m: Match, v: u64, x: Fault, y: Fault) -> Book
+    requires { ⌜ Due book number m v ⌝ }
+    requires { ⌜ percent-of x ≤ 100 ⌝ }
+    requires { ⌜ percent-of y ≤ 100 ⌝ }
+    ensures { λ r. ⌜ r ≡ settle-ended book number m x y ⌝ }
+{
+    let receipts = book.receipts;
+    let freed = free_again(receipts, book.receipt_count, number);
+    let mut next = punish(book, m, v, x, y);
+    next.receipts = freed;
+    set_stage(next, number, 0, Stage::Ended)
+}
+
+// "Without fault the buyer pays V", else the match is ended: x is the buyer's fault, y the seller's.
+fn settled(book: Book, number: u64, m: Match, v: u64, x: Fault, y: Fault) -> Book
+    requires { ⌜ Due book number m v ⌝ }
+    requires { ⌜ percent-of x ≤ 100 ⌝ }
+    requires { ⌜ percent-of y ≤ 100 ⌝ }
+    ensures { λ r. ⌜ r ≡ settled book number m x y ⌝ }
+{
+    match x {
+        Fault::Faultless => match y {
+            Fault::Faultless => {
+                if book.board {
+                    return settle_board(book, number, m, v);
+                }
+                settle_receipts(book, number, m, v)
+            }
+            Fault::Percent(q) => settle_ended(
+                book,
+                number,
+                m,
+                v,
+                Fault::Faultless,
+                Fault::Percent(q),
+            ),
+        },
+        Fault::Percent(p) => settle_ended(book, number, m, v, Fault::Percent(p), y),
+    }
+}
+
+// "Buyer's fault: unfit (10%), else cash below V (R%)", the seller's by its receipts or heat, and the match settled.
+fn settle_due(book: Book, number: u64) -> Book
+    requires { ⌜ Reached book ⌝ }
+    requires { ⌜ number < book .«match_count» ⌝ }
+    ensures { λ r. ⌜ r ≡ settled book number (match-at book number) (buyer-fault book number) (seller-fault book number) ⌝ }
+{
+    let j = number as usize;
+    let m = book.matches[j];
+    let v = value(m, book.tonnes);
+    let k = m.buyer as usize;
+    let buyer = book.accounts[k];
+    let i = m.seller as usize;
+    let seller = book.accounts[i];
+    let receipts = book.receipts;
+    let frozen = frozen_receipts(receipts, book.receipt_count, number);
+    let x = fault(buyer.fit, rows::cash_below(buyer, v), book.rate);
+    let y = fault(seller.fit, seller_lacks(m, book.board, frozen), book.rate);
+    settled(book, number, m, v, x, y)
+}
+
+// "13 Settle match." "Settle (paired)."
+pub fn settle(book: Book, number: u64) -> Outcome
+    requires { ⌜ Reached book ⌝ }
+    ensures { λ r. ⌜ r ≡ settle book number ⌝ }
+{
+    if book.match_count as u64 <= number {
+        return Outcome {
+            answer: Answer::Refused(21),
+            book,
+        };
+    }
+    let j = number as usize;
+    let m = book.matches[j];
+    if !rows::is_paired(m) {
+        return Outcome {
+            answer: Answer::Refused(22),
+            book,
+        };
+    }
+    if book.day < m.due as u64 {
+        return Outcome {
+            answer: Answer::Refused(23),
+            book,
+        };
+    }
+    let next = settle_due(book, number);
+    Outcome {
+        answer: Answer::Accepted(0),
+        book: next,
+    }
+}
+
+// ---- Measure
+
+// "works out amount B": of P the match's price, H its declared heat, D = units × T × 1,000 kg, and the measured values.
+fn amount_due(c: Match, tonnes: u64, w: u64, q: u64, m: u64, s: u64, f: u64, a: u64) -> u64
+    requires { ⌜ c .units ≤ 1_000 ⌝ }
+    requires { ⌜ c .price ≤ 1_000_000 ⌝ }
+    requires { ⌜ heat-value (c .heat) ≤ 10_000 ⌝ }
+    requires { ⌜ tonnes ≤ 20_000 ⌝ }
+    ensures { λ r. ⌜ r ≡ amount (coal-price (c .price) (heat-value (c .heat)) q s f a) (coal-weight (c .units * tonnes * 1_000) w m) ⌝ }
+    ensures { λ r. ⌜ r ≤ most-paid ⌝ }
+{
+    let heat = c.heat;
+    let price = coal::price(c.price as u64, rows::heat_value(heat), q, s, f, a);
+    let weight = coal::weight(c.units as u64 * tonnes * 1_000, w, m);
+    coal::amount(price, weight)
+}
+
+// "buyer gets V back and pays B; seller gets 80% of B, down; the rest is held; stage held."
+fn measured(book: Book, number: u64, m: Match, v: u64, amount: u64) -> Book
+    requires { ⌜ Due book number m v ⌝ }
+    requires { ⌜ amount ≤ most-paid ⌝ }
+    ensures { λ r. ⌜ r ≡ measured book number m amount ⌝ }
+{
+    let first = percent_down(80, amount);
+    let rest = amount - first;
+    let back = pay(book, m.buyer, v);
+    let paid = charge(back, m.buyer, amount);
+    let next = pay(paid, m.seller, first);
+    set_stage(next, number, rest, Stage::Held)
+}
+
+// "W kg 0..40,000,000,000"; "these five 0..10,000": whether a measured value is out of range.
+fn out_of_range(w: u64, q: u64, m: u64, s: u64, f: u64, a: u64) -> bool
+    ensures { λ r. ⌜ r ≡ ltb 40_000_000_000 w || ltb 10_000 q || ltb 10_000 m || ltb 10_000 s || ltb 10_000 f || ltb 10_000 a ⌝ }
+{
+    (40_000_000_000 < w) | (10_000 < q) | (10_000 < m) | (10_000 < s) | (10_000 < f) | (10_000 < a)
+}
+
+// "14 Measure match, W, Q, M, S, F, A." "Measure (prepaid)"
+pub fn measure(book: Book, number: u64, w: u64, q: u64, m: u64, s: u64, f: u64, a: u64) -> Outcome
+    requires { ⌜ Reached book ⌝ }
+    ensures { λ r. ⌜ r ≡ measure book number w q m s f a ⌝ }
+{
+    if !book.board {
+        return Outcome {
+            answer: Answer::Refused(4),
+            book,
+        };
+    }
+    if book.match_count as u64 <= number {
+        return Outcome {
+            answer: Answer::Refused(21),
+            book,
+        };
+    }
+    let j = number as usize;
+    let c = book.matches[j];
+    if !rows::is_prepaid(c) {
+        return Outcome {
+            answer: Answer::Refused(22),
+            book,
+        };
+    }
+    if out_of_range(w, q, m, s, f, a) {
+        return Outcome {
+            answer: Answer::Refused(24),
+            book,
+        };
+    }
+    let v = value(c, book.tonnes);
+    let amount = amount_due(c, book.tonnes, w, q, m, s, f, a);
+    let next = measured(book, number, c, v, amount);
+    Outcome {
+        answer: Answer::Accepted(0),
+        book: next,
+    }
+}
+
+// ---- Invoice
+
+// "15 Invoice match." "Invoice (held): the money held goes to the seller; closed."
+pub fn invoice(book: Book, number: u64) -> Outcome
+    requires { ⌜ Reached book ⌝ }
+    ensures { λ r. ⌜ r ≡ invoice book number ⌝ }
+{
+    if book.match_count as u64 <= number {
+        return Outcome {
+            answer: Answer::Refused(21),
+            book,
+        };
+    }
+    let j = number as usize;
+    let m = book.matches[j];
+    if !rows::is_held(m) {
+        return Outcome {
+            answer: Answer::Refused(22),
+            book,
+        };
+    }
+    let paid = pay(book, m.seller, m.held);
+    let next = set_stage(paid, number, 0, Stage::Closed);
+    Outcome {
+        answer: Answer::Accepted(0),
+        book: next,
+    }
+}
+
+// ---- Terminate
+
+// "buyer gets V back; party or parties at fault pay R% of V as above; ended.": whoever is named is at fault, fit or not.
+fn terminated(book: Book, number: u64, m: Match, v: u64, party: u64) -> Book
+    requires { ⌜ Due book number m v ⌝ }
+    ensures { λ r. ⌜ r ≡ terminated book number m party ⌝ }
+{
+    let repaid = pay(book, m.buyer, v);
+    let x = fault(true, party != 1, book.rate);
+    let y = fault(true, party != 0, book.rate);
+    let next = punish(repaid, m, v, x, y);
+    set_stage(next, number, 0, Stage::Ended)
+}
+
+// "16 Terminate match, party (0 buyer, 1 seller, 2 both)." "Terminate (prepaid)"
+pub fn terminate(book: Book, number: u64, party: u64) -> Outcome
+    requires { ⌜ Reached book ⌝ }
+    ensures { λ r. ⌜ r ≡ terminate book number party ⌝ }
+{
+    if !book.board {
+        return Outcome {
+            answer: Answer::Refused(4),
+            book,
+        };
+    }
+    if 2 < party {
+        return Outcome {
+            answer: Answer::Refused(8),
+            book,
+        };
+    }
+    if book.match_count as u64 <= number {
+        return Outcome {
+            answer: Answer::Refused(21),
+            book,
+        };
+    }
+    let j = number as usize;
+    let m = book.matches[j];
+    if !rows::is_prepaid(m) {
+        return Outcome {
+            answer: Answer::Refused(22),
+            book,
+        };
+    }
+    let v = value(m, book.tonnes);
+    let next = terminated(book, number, m, v, party);
+    Outcome {
+        answer: Answer::Accepted(0),
+        book: next,
+    }
+}

@@ -1,0 +1,16 @@
+-- `put_number` meets its contract: 64 bits are 20 digits at most. Assumes nothing.
+use native.Mathlib.Omega.{arith}
+use borrow.Author.Needs.{needs}
+use Rattle.text.proofs.Printing.{digits-64}
+use Rattle.text.proofs.print.put_number.Statement.{statement}
+use Rattle.text.proofs.print.put_number.Tie as tie
+
+pub put-number-spec : {M : Type 1} → statement M
+put-number-spec =
+    tie.close
+    (tie.spec
+    (λ c κs. let s = c .before .before in omega (arith, digits-64 (s .args .n) (s .fits .n .fits), s .pre))
+    (λ c. search needs)
+    (λ c. let s = c .before .before .before .before .before in
+    let p = c .before .before .put-digits .ensures in
+    (p, omega (arith, p .next, digits-64 (s .args .n) (s .fits .n .fits)))))

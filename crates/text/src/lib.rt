@@ -1,0 +1,13 @@
+// The text of a session: its lines read, its answers and its ledger printed.
+mod ledger;
+mod lines;
+mod numbers;
+mod print;
+
+pub use ledger::put_ledger;
+pub use lines::Line;
+pub use lines::OpeningLine;
+pub use lines::line_end;
+pub use lines::read_line;
+pub use lines::read_opening;
+pub use print::put_answer;
