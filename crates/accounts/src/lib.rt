@@ -51,7 +51,7 @@ pub fn opening(kind: u64, tonnes: u64, rate: u64, price: u64) -> Outcome
 }
 
 // "11 Day price: day + 1; carries the new day."
-pub fn next_day(book: Book, price: u64) -> Outcome
+pub fn next_day(mut book: Book, price: u64) -> Outcome
     ensures { λ r. ⌜ r ≡ next-day book price ⌝ }
 {
     let day = book.day;
@@ -73,17 +73,16 @@ pub fn next_day(book: Book, price: u64) -> Outcome
             book,
         };
     }
-    let mut next = book;
-    next.price = price;
-    next.day = day + 1;
+    book.price = price;
+    book.day = day + 1;
     Outcome {
         answer: Answer::Accepted(day + 1),
-        book: next,
+        book,
     }
 }
 
 // "1 Join residence, fitness; carries the account number."
-pub fn join(book: Book, residence: u64, fitness: u64) -> Outcome
+pub fn join(mut book: Book, residence: u64, fitness: u64) -> Outcome
     ensures { λ r. ⌜ r ≡ join book residence fitness ⌝ }
 {
     let k = book.account_count;
@@ -105,17 +104,16 @@ pub fn join(book: Book, residence: u64, fitness: u64) -> Outcome
             book,
         };
     }
-    let mut next = book;
-    next.accounts[k] = rows::new_account(residence, fitness);
-    next.account_count = k + 1;
+    book.accounts[k] = rows::new_account(residence, fitness);
+    book.account_count = k + 1;
     Outcome {
         answer: Answer::Accepted(k as u64),
-        book: next,
+        book,
     }
 }
 
 // "2 Deposit account, amount: cash up by it."
-pub fn deposit(book: Book, account: u64, amount: u64) -> Outcome
+pub fn deposit(mut book: Book, account: u64, amount: u64) -> Outcome
     requires { ⌜ Reached book ⌝ }
     ensures { λ r. ⌜ r ≡ deposit book account amount ⌝ }
 {
@@ -146,17 +144,16 @@ pub fn deposit(book: Book, account: u64, amount: u64) -> Outcome
     }
     let k = account as usize;
     let a = book.accounts[k];
-    let mut next = book;
-    next.deposited = deposited + amount;
-    next.accounts[k] = rows::credited(a, amount);
+    book.deposited = deposited + amount;
+    book.accounts[k] = rows::credited(a, amount);
     Outcome {
         answer: Answer::Accepted(0),
-        book: next,
+        book,
     }
 }
 
 // "3 Withdraw account, amount: cash down by it."
-pub fn withdraw(book: Book, account: u64, amount: u64) -> Outcome
+pub fn withdraw(mut book: Book, account: u64, amount: u64) -> Outcome
     requires { ⌜ Reached book ⌝ }
     ensures { λ r. ⌜ r ≡ withdraw book account amount ⌝ }
 {
@@ -186,16 +183,15 @@ pub fn withdraw(book: Book, account: u64, amount: u64) -> Outcome
             book,
         };
     }
-    let mut next = book;
-    next.accounts[k] = rows::debited(a, amount);
+    book.accounts[k] = rows::debited(a, amount);
     Outcome {
         answer: Answer::Accepted(0),
-        book: next,
+        book,
     }
 }
 
 // Trade, where the two accounts are there: refusals 9 and 10, and the units.
-fn trade_rows(book: Book, buyer: u64, seller: u64, units: u64) -> Outcome
+fn trade_rows(mut book: Book, buyer: u64, seller: u64, units: u64) -> Outcome
     requires { ⌜ Reached book ⌝ }
     requires { ⌜ buyer < book .«account_count» ⌝ }
     requires { ⌜ seller < book .«account_count» ⌝ }
@@ -232,12 +228,11 @@ fn trade_rows(book: Book, buyer: u64, seller: u64, units: u64) -> Outcome
         };
     }
     let day = book.day;
-    let mut next = book;
-    next.accounts[i] = rows::units_on(bought, Side::Long, units, day);
-    next.accounts[j] = rows::units_on(sold, Side::Short, units, day);
+    book.accounts[i] = rows::units_on(bought, Side::Long, units, day);
+    book.accounts[j] = rows::units_on(sold, Side::Short, units, day);
     Outcome {
         answer: Answer::Accepted(0),
-        book: next,
+        book,
     }
 }
 

@@ -11,7 +11,7 @@ use book::Book;
 use book::Outcome;
 
 // "7 Declare account, heat 4,300..10,000; replaces an earlier one."
-pub fn declare(book: Book, account: u64, heat: u64) -> Outcome
+pub fn declare(mut book: Book, account: u64, heat: u64) -> Outcome
     requires { ⌜ Reached book ⌝ }
     ensures { λ r. ⌜ r ≡ declare book account heat ⌝ }
 {
@@ -41,11 +41,10 @@ pub fn declare(book: Book, account: u64, heat: u64) -> Outcome
     }
     let k = account as usize;
     let a = book.accounts[k];
-    let mut next = book;
-    next.accounts[k] = rows::with_heat(a, heat);
+    book.accounts[k] = rows::with_heat(a, heat);
     Outcome {
         answer: Answer::Accepted(0),
-        book: next,
+        book,
     }
 }
 
@@ -61,7 +60,7 @@ fn lacks_heat(board: bool, a: Account) -> bool
 }
 
 // Offer, where the account is there and the units are in range: refusals 12 to 19, and the offer.
-fn offer_row(book: Book, seller: u64, units: u64) -> Outcome
+fn offer_row(mut book: Book, seller: u64, units: u64) -> Outcome
     requires { ⌜ Reached book ⌝ }
     requires { ⌜ seller < book .«account_count» ⌝ }
     requires { ⌜ units ≤ 1_000 ⌝ }
@@ -93,11 +92,10 @@ fn offer_row(book: Book, seller: u64, units: u64) -> Outcome
             book,
         };
     }
-    let mut next = book;
-    next.accounts[k] = rows::with_units_offered(a, units);
+    book.accounts[k] = rows::with_units_offered(a, units);
     Outcome {
         answer: Answer::Accepted(0),
-        book: next,
+        book,
     }
 }
 
@@ -134,7 +132,7 @@ pub fn offer(book: Book, seller: u64, units: u64) -> Outcome
 }
 
 // "9 Retract seller."
-pub fn retract(book: Book, seller: u64) -> Outcome
+pub fn retract(mut book: Book, seller: u64) -> Outcome
     requires { ⌜ Reached book ⌝ }
     ensures { λ r. ⌜ r ≡ retract book seller ⌝ }
 {
@@ -158,10 +156,9 @@ pub fn retract(book: Book, seller: u64) -> Outcome
             book,
         };
     }
-    let mut next = book;
-    next.accounts[k] = rows::with_offer_ended(a);
+    book.accounts[k] = rows::with_offer_ended(a);
     Outcome {
         answer: Answer::Accepted(0),
-        book: next,
+        book,
     }
 }

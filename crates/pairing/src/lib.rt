@@ -42,7 +42,14 @@ fn freeze(
 }
 
 // "takes the units off both sides; .. In a receipts book it freezes the seller's lowest-numbered free receipts": the next match, due in some days.
-pub fn pair(book: Book, bonded_only: bool, days: u64, buyer: u64, seller: u64, units: u64) -> Book
+pub fn pair(
+    mut book: Book,
+    bonded_only: bool,
+    days: u64,
+    buyer: u64,
+    seller: u64,
+    units: u64,
+) -> Book
     requires { ⌜ buyer < 32 ⌝ }
     requires { ⌜ seller < 32 ⌝ }
     requires { ⌜ units < 65_536 ⌝ }
@@ -55,26 +62,25 @@ pub fn pair(book: Book, bonded_only: bool, days: u64, buyer: u64, seller: u64, u
     let number = book.match_count;
     let i = buyer as usize;
     let j = seller as usize;
-    let mut next = book;
-    let a = next.accounts[j];
+    let a = book.accounts[j];
     let heat = a.heat;
-    next.matches[number] = rows::new_match(buyer, seller, units, next.price, next.day + days, heat);
-    next.match_count = number + 1;
-    next.accounts[i] = rows::units_off(next.accounts[i], units);
-    next.accounts[j] = rows::units_off(next.accounts[j], units);
-    if next.board {
-        return next;
+    book.matches[number] = rows::new_match(buyer, seller, units, book.price, book.day + days, heat);
+    book.match_count = number + 1;
+    book.accounts[i] = rows::units_off(book.accounts[i], units);
+    book.accounts[j] = rows::units_off(book.accounts[j], units);
+    if book.board {
+        return book;
     }
-    let receipts = next.receipts;
-    next.receipts = freeze(
+    let receipts = book.receipts;
+    book.receipts = freeze(
         receipts,
-        next.receipt_count,
+        book.receipt_count,
         bonded_only,
         seller,
         number as u64,
         units,
     );
-    next
+    book
 }
 
 // Take, where buyer and seller are there and so many units are offered.

@@ -50,7 +50,7 @@ pub fn lacks_receipts(
 }
 
 // "5 Lodge owner, class; carries the receipt number."
-pub fn lodge(book: Book, owner: u64, class: u64) -> Outcome
+pub fn lodge(mut book: Book, owner: u64, class: u64) -> Outcome
     requires { ⌜ Reached book ⌝ }
     ensures { λ r. ⌜ r ≡ lodge book owner class ⌝ }
 {
@@ -79,17 +79,16 @@ pub fn lodge(book: Book, owner: u64, class: u64) -> Outcome
             book,
         };
     }
-    let mut next = book;
-    next.receipts[i] = rows::new_receipt(owner, class);
-    next.receipt_count = i + 1;
+    book.receipts[i] = rows::new_receipt(owner, class);
+    book.receipt_count = i + 1;
     Outcome {
         answer: Answer::Accepted(i as u64),
-        book: next,
+        book,
     }
 }
 
 // "6 Strike owner, receipt."
-pub fn strike(book: Book, owner: u64, receipt: u64) -> Outcome
+pub fn strike(mut book: Book, owner: u64, receipt: u64) -> Outcome
     requires { ⌜ Reached book ⌝ }
     ensures { λ r. ⌜ r ≡ strike book owner receipt ⌝ }
 {
@@ -131,10 +130,9 @@ pub fn strike(book: Book, owner: u64, receipt: u64) -> Outcome
             book,
         };
     }
-    let mut next = book;
-    next.receipts[i] = rows::struck(r);
+    book.receipts[i] = rows::struck(r);
     Outcome {
         answer: Answer::Accepted(0),
-        book: next,
+        book,
     }
 }

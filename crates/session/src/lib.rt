@@ -6,26 +6,11 @@ ghost use Rattle.book.specs.Lists.{Reached};
 ghost use Rattle.text.specs.Lines.{lines};
 ghost use Rattle.text.specs.declared.lines.OpeningLine.{OpeningLine};
 ghost use Rattle.text.specs.Print.{Put};
-ghost use Rattle.session.specs.Session.{reply, told, opened, room, Delivered};
+ghost use Rattle.session.specs.Session.{told, opened, room, Delivered};
 use book::Answer;
 use book::Book;
-use book::Outcome;
 use text::Line;
 use text::OpeningLine;
-
-// A later line: a call is answered by the machine, a line not of the form by 26.
-fn reply(book: Book, line: Line) -> Outcome
-    requires { ⌜ Reached book ⌝ }
-    ensures { λ r. ⌜ r ≡ reply book line ⌝ }
-{
-    let Line::Run(call) = line else {
-        return Outcome {
-            answer: Answer::Refused(26),
-            book,
-        };
-    };
-    calls::apply(book, call)
-}
 
 // The answers to the lines from a place on, and the ledger after them.
 fn run(book: Book, s: &[u8], from: usize, out: &mut [u8], at: usize) -> usize
@@ -41,11 +26,15 @@ fn run(book: Book, s: &[u8], from: usize, out: &mut [u8], at: usize) -> usize
     while i < s.len() {
         let e = text::line_end(s, i);
         let line = text::read_line(&s[i..e]);
-        let o = reply(next, line);
+        i = e;
+        let Line::Run(call) = line else {
+            w = text::put_answer(out, w, Answer::Refused(26));
+            continue;
+        };
+        let o = calls::apply(next, call);
         let answer = o.answer;
         w = text::put_answer(out, w, answer);
         next = o.book;
-        i = e;
     }
     text::put_ledger(out, w, next)
 }

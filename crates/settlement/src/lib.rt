@@ -35,7 +35,7 @@ fn value(m: Match, tonnes: u64) -> u64
 }
 
 // The book with an amount paid to an account.
-fn pay(book: Book, account: u8, amount: u64) -> Book
+fn pay(mut book: Book, account: u8, amount: u64) -> Book
     requires { ⌜ account < 32 ⌝ }
     requires { ⌜ Room 1 book ⌝ }
     requires { ⌜ amount ≤ most-paid ⌝ }
@@ -43,13 +43,12 @@ fn pay(book: Book, account: u8, amount: u64) -> Book
 {
     let k = account as usize;
     let a = book.accounts[k];
-    let mut next = book;
-    next.accounts[k] = rows::credited(a, amount);
-    next
+    book.accounts[k] = rows::credited(a, amount);
+    book
 }
 
 // The book with an amount taken from an account.
-fn charge(book: Book, account: u8, amount: u64) -> Book
+fn charge(mut book: Book, account: u8, amount: u64) -> Book
     requires { ⌜ account < 32 ⌝ }
     requires { ⌜ Room 1 book ⌝ }
     requires { ⌜ amount ≤ most-paid ⌝ }
@@ -57,21 +56,19 @@ fn charge(book: Book, account: u8, amount: u64) -> Book
 {
     let k = account as usize;
     let a = book.accounts[k];
-    let mut next = book;
-    next.accounts[k] = rows::debited(a, amount);
-    next
+    book.accounts[k] = rows::debited(a, amount);
+    book
 }
 
 // The book with so much money held for a match, and the match at a stage.
-fn set_stage(book: Book, number: u64, held: u64, stage: Stage) -> Book
+fn set_stage(mut book: Book, number: u64, held: u64, stage: Stage) -> Book
     requires { ⌜ number < 128 ⌝ }
     ensures { λ r. ⌜ r ≡ set-stage book number held stage ⌝ }
 {
     let j = number as usize;
     let m = book.matches[j];
-    let mut next = book;
-    next.matches[j] = rows::with_held(m, held, stage);
-    next
+    book.matches[j] = rows::with_held(m, held, stage);
+    book
 }
 
 // ---- receipts of a match

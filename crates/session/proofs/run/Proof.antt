@@ -1,13 +1,13 @@
 -- `run` meets its contract: the loop goes line by line, and who writes what is told from there on has written all. Assumes nothing.
-use mathlib.Core.Path.{_≡_, refl}
+use mathlib.Core.Path.{_≡_, refl, sym, _∙_}
 use Prim.Native.Nat.{ℕ, _-_, _≤_, _<_}
 use native.Mathlib.Omega.{arith}
 use borrow.Author.Needs.{needs}
 use lib.ListN.{length}
 use denote.Ref.{now}
+use Rattle.book.specs.laws.Reaching.{sound}
 use Rattle.text.proofs.Cutting.{end-past, end-within}
 use Rattle.session.proofs.Running.{Running, turn, ended}
-use Rattle.book.specs.laws.Reaching.{sound}
 use Rattle.session.proofs.run.Statement.{statement}
 use Rattle.session.proofs.run.Tie as tie
 
@@ -36,15 +36,26 @@ run-spec =
     (λ c. omega (arith, past c, inside c))
     (λ c. omega (arith, past c, inside c))
     (λ c κs. search needs)
-    (λ c κs. search needs)
+    (λ c. search needs)
+    (λ c. search needs)
     (λ c κs. search needs)
     (λ c. let d = c .before .before .before .before .before .before .before .before in omega (arith, past d, inside d))
     (λ c.
-    let d = c .before .before .before .before .before .before .before .before in
-    let put = c .before .before .before .put-answer in
-    let said = c .before .before .before .before .before .reply in
+    let line = c .before .before .before .before .enum-told in
     let read = c .before .before .before .before .before .before .read-line in
-    turn (d .before .before .loop .inv) (d .before .loop-test .taken) (d .line-end .ensures) _ (read .ensures) _ (said .ensures) _ _ (put .ensures .0) (put .ensures .1) (put .kept .0))
+    let d = c .before .before .before .before .before .before .before .before in
+    let put = c .before .before .put-answer in
+    turn (d .before .before .loop .inv) (d .before .loop-test .taken) (d .line-end .ensures) _ (sym (line .given .1) ∙ read .ensures) _ refl _ _ (put .ensures .0) (put .ensures .1) (put .kept .0))
+    (λ c κs. search needs)
+    (λ c κs. search needs)
+    (λ c. let d = c .before .before .before .before .before .before .before .before .before .before .before in omega (arith, past d, inside d))
+    (λ c.
+    let put = c .before .before .before .put-answer2 in
+    let said = c .before .before .before .before .before .apply in
+    let line = c .before .before .before .before .before .before .before .line in
+    let read = c .before .before .before .before .before .before .before .before .before .read-line in
+    let d = c .before .before .before .before .before .before .before .before .before .before .before in
+    turn (d .before .before .loop .inv) (d .before .loop-test .taken) (d .line-end .ensures) _ (sym (line .given .1) ∙ read .ensures) _ (said .ensures) _ _ (put .ensures .0) (put .ensures .1) (put .kept .0))
     (λ c κs.
     let inv = c .before .before .loop .inv in
     let rows = sound (inv .reached) .tables .core in

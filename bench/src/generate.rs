@@ -1,0 +1,189 @@
+//! Sessions made from a seed: mostly sensible calls, with wrong ones and damaged lines mixed in.
+
+pub struct Random(u64);
+
+impl Random {
+    pub fn new(seed: u64) -> Random {
+        Random(seed.wrapping_mul(0x9E37_79B9_7F4A_7C15) ^ 0xD1B5_4A32_D192_ED03)
+    }
+
+    pub fn next(&mut self) -> u64 {
+        self.0 ^= self.0 << 13;
+        self.0 ^= self.0 >> 7;
+        self.0 ^= self.0 << 17;
+        self.0.wrapping_mul(0x2545_F491_4F6C_DD1D)
+    }
+
+    /// A number below `n`.
+    pub fn below(&mut self, n: u64) -> u64 {
+        (self.next() >> 16) % n
+    }
+
+    fn chance(&mut self, percent: u64) -> bool {
+        self.below(100) < percent
+    }
+
+    fn pick(&mut self, values: &[u64]) -> u64 {
+        values[self.below(values.len() as u64) as usize]
+    }
+}
+
+fn amount(r: &mut Random) -> u64 {
+    match r.below(6) {
+        0 => r.pick(&[0, 1, 999_999_999_999_999, 1_000_000_000_000_000, 1_000_000_000_000_001]),
+        1 => r.below(1_000),
+        _ => r.below(100_000_000_000),
+    }
+}
+
+fn units(r: &mut Random) -> u64 {
+    match r.below(12) {
+        0 => r.pick(&[0, 1, 999, 1_000, 1_001]),
+        1 => r.below(300),
+        _ => 1 + r.below(6),
+    }
+}
+
+fn near(r: &mut Random, limits: &[u64]) -> u64 {
+    let x = r.pick(limits);
+    match r.below(3) {
+        0 => x.saturating_sub(1),
+        1 => x,
+        _ => x + 1,
+    }
+}
+
+fn price(r: &mut Random) -> u64 {
+    match r.below(20) {
+        0 => r.pick(&[0, 1, 1_000_000, 1_000_001]),
+        _ => 1 + r.below(1_000_000),
+    }
+}
+
+/// An account's number, now and then one that is not there.
+fn number(r: &mut Random, accounts: u64) -> u64 {
+    let beyond = if r.chance(2) { 2 } else { 0 };
+    r.below(accounts + beyond)
+}
+
+/// One call of a session over `accounts` accounts; `late` is how far the session has come, in percent.
+fn call(r: &mut Random, board: bool, accounts: u64, late: u64) -> Vec<u64> {
+    let k = number(r, accounts);
+    let l = number(r, accounts);
+    let j = if r.chance(90) { r.below(1 + late * accounts / 40 + 4) } else { r.below(130) };
+    let kind = match r.below(100) {
+        x if late < 60 => match x {
+            0..=4 => 1,
+            5..=19 => 2,
+            20..=22 => 3,
+            23..=44 => 4,
+            45..=59 => if board { 7 } else { 5 },
+            60..=62 => 6,
+            63..=74 => 8,
+            75..=77 => 9,
+            78..=88 => 10,
+            89..=91 => 11,
+            92..=94 => 13,
+            95 => 14,
+            96 => 15,
+            97 => 16,
+            98 => if late > 40 { 12 } else { 4 },
+            _ => if board { 5 } else { 7 },
+        },
+        x => match x {
+            0..=4 => 12,
+            5..=19 => 11,
+            20..=59 => 13,
+            60..=69 => if board { 14 } else { 13 },
+            70..=84 => 15,
+            85..=89 => 16,
+            90..=93 => 2,
+            94..=95 => 3,
+            96..=97 => 6,
+            _ => 4,
+        },
+    };
+    let mut c = vec![kind];
+    match kind {
+        1 => c.extend([r.below(2), if r.chance(85) { 1 } else { r.below(3) }]),
+        2 | 3 => c.extend([k, amount(r)]),
+        4 => c.extend([k, l, units(r)]),
+        5 => c.extend([k, if r.chance(95) { r.below(2) } else { 2 }]),
+        6 => c.extend([k, r.below(40)]),
+        7 => c.extend([k, if r.chance(80) { 4_300 + r.below(3_000) } else { near(r, &[4_300, 10_000]) }]),
+        8 => c.extend([k, units(r)]),
+        9 => c.push(k),
+        10 => c.extend([k, l]),
+        11 => c.push(price(r)),
+        12 => {}
+        13 | 15 => c.push(j),
+        14 => c.extend([
+            j,
+            if r.chance(50) { r.below(100_000_000) } else { near(r, &[19_500_000, 20_000_000, 20_500_000, 40_000_000_000]) },
+            if r.chance(60) { 3_500 + r.below(4_000) } else { near(r, &[4_300, 4_800, 5_300, 6_000, 10_000]) },
+            if r.chance(50) { r.below(10_001) } else { near(r, &[2_500, 2_505, 2_632, 10_000]) },
+            if r.chance(50) { r.below(400) } else { near(r, &[80, 85, 150, 250, 10_000]) },
+            if r.chance(50) { r.below(10_001) } else { near(r, &[3_000, 4_200, 10_000]) },
+            if r.chance(50) { r.below(10_001) } else { near(r, &[3_000, 10_000]) },
+        ]),
+        _ => {
+            let parties = if r.chance(95) { 3 } else { 5 };
+            c.extend([j, r.below(parties)]);
+        }
+    }
+    c
+}
+
+fn write_line(out: &mut Vec<u8>, values: &[u64]) {
+    for (n, v) in values.iter().enumerate() {
+        if n > 0 {
+            out.push(b' ');
+        }
+        out.extend_from_slice(v.to_string().as_bytes());
+    }
+    out.push(b'\n');
+}
+
+/// A session of `calls` calls from a seed, without damage.
+pub fn session(seed: u64, calls: usize) -> Vec<u8> {
+    let mut r = Random::new(seed);
+    let board = r.chance(40);
+    let mut out = Vec::new();
+    let tonnes = if board && r.chance(70) { 20_000 } else { 1 + r.below(20_000) };
+    write_line(&mut out, &[0, board as u64, tonnes, r.below(101), 1 + r.below(1_000_000)]);
+    let accounts = 2 + r.below(31);
+    for n in 0..calls {
+        if (n as u64) < accounts {
+            let fit = r.chance(85) as u64;
+            write_line(&mut out, &[1, r.below(2), fit]);
+        } else {
+            let c = call(&mut r, board, accounts, n as u64 * 100 / calls as u64);
+            write_line(&mut out, &c);
+        }
+    }
+    out
+}
+
+/// Damage: bytes changed, put in, taken out, lines blanked or cut, the end lost.
+pub fn damage(r: &mut Random, text: &mut Vec<u8>) {
+    for _ in 0..1 + r.below(8) {
+        if text.is_empty() {
+            return;
+        }
+        let at = r.below(text.len() as u64) as usize;
+        let byte = *b"0123456789 \n-+\r\t00x\xff".get(r.below(20) as usize).unwrap();
+        match r.below(6) {
+            0 => text[at] = byte,
+            1 => text.insert(at, byte),
+            2 => {
+                text.remove(at);
+            }
+            3 => text.truncate(at),
+            4 => text.insert(at, b'\n'),
+            _ => {
+                let digits = b"1234567890123456789".iter().take(17 + r.below(3) as usize).copied();
+                text.splice(at..at, digits);
+            }
+        }
+    }
+}

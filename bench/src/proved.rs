@@ -1,0 +1,17 @@
+//! The proved book, through its C interface (include/delivery.h).
+
+extern "C" {
+    fn delivery_session(input: *const u8, input_length: usize, output: *mut u8, output_length: usize) -> usize;
+}
+
+/// Room for the output of every session.
+pub const ROOM: usize = 829_611;
+
+/// A whole session into a buffer of ROOM bytes, which is not cleared first; answers how many bytes it wrote.
+pub fn run(input: &[u8], out: &mut Vec<u8>) -> usize {
+    if out.len() < ROOM {
+        out.resize(ROOM, 0);
+    }
+    // The two slices are valid for their lengths and apart, and the function writes only within the second.
+    unsafe { delivery_session(input.as_ptr(), input.len(), out.as_mut_ptr(), out.len()) }
+}

@@ -1,0 +1,12 @@
+-- What a caller from C gets: the session's output, or nothing where its buffer is too short. Assumes nothing.
+use mathlib.Core.Path.{_≡_}
+use mathlib.Core.List.{List}
+use Prim.Native.Nat.{ℕ, _≤_, _<_}
+use lib.ListN.{length}
+use Rattle.session.specs.Session.{room, Delivered}
+
+-- the buffer before and after, and the number of bytes
+pub record Served (input before out : List ℕ) (r : ℕ) : Type 0 where
+  pub enough : room ≤ length before → Delivered input out r
+  -- too short: 0, and nothing is written
+  pub short : length before < room → ((r ≡ 0) × (out ≡ before))

@@ -1,0 +1,13 @@
+// The interface for C: include/delivery.h declares what is exported here.
+ghost use Rattle.firmware.specs.Served.{Served};
+
+// A session from a buffer to a buffer: how many bytes were written, or 0, with nothing written, where the output has less room than every session needs.
+#[no_mangle]
+pub extern "C" fn delivery_session(input: &[u8], out: &mut [u8]) -> usize
+    ensures { λ r. ⌜ Served (now (input .entry)) (now (out .entry)) (now (out .exit)) r ⌝ }
+{
+    if out.len() < 829_611 {
+        return 0;
+    }
+    session::session(input, out)
+}
