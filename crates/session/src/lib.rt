@@ -9,6 +9,7 @@ ghost use Rattle.text.specs.Print.{Put};
 ghost use Rattle.session.specs.Session.{told, opened, room, Delivered};
 use book::Answer;
 use book::Book;
+use book::Outcome;
 use text::Line;
 use text::OpeningLine;
 
@@ -20,7 +21,10 @@ fn run(book: Book, s: &[u8], from: usize, out: &mut [u8], at: usize) -> usize
     requires { ⌜ 12 * length (now s) + 43_179 ≤ length (now out) ⌝ }
     ensures { λ r. ⌜ Put (now (out .entry)) (now (out .exit)) at r (told book (lines (drop from (now (s .entry))))) ⌝ }
 {
-    let mut next = book;
+    let mut o = Outcome {
+        answer: Answer::Accepted(0),
+        book,
+    };
     let mut i = from;
     let mut w = at;
     while i < s.len() {
@@ -31,12 +35,11 @@ fn run(book: Book, s: &[u8], from: usize, out: &mut [u8], at: usize) -> usize
             w = text::put_answer(out, w, Answer::Refused(26));
             continue;
         };
-        let o = calls::apply(next, call);
+        o = calls::apply(o.book, call);
         let answer = o.answer;
         w = text::put_answer(out, w, answer);
-        next = o.book;
     }
-    text::put_ledger(out, w, next)
+    text::put_ledger(out, w, o.book)
 }
 
 // The opening of line one, its answer, and the rest of the session where it is accepted.

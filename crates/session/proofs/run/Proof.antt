@@ -12,10 +12,10 @@ use Rattle.session.proofs.run.Statement.{statement}
 use Rattle.session.proofs.run.Tie as tie
 
 abbrev Inv-loop : tie.InvT-loop
-Inv-loop s from out₀ at next₀ i₀ w₀ out next i w = Running s next₀ from at out₀ out next i w
+Inv-loop s from out₀ at o₀ i₀ w₀ out o i w = Running s (o₀ .book) from at out₀ out (o .book) i w
 
 abbrev μ-loop : tie.MeasureT-loop
-μ-loop s from out₀ at next₀ i₀ w₀ out next i w = length s - i
+μ-loop s from out₀ at o₀ i₀ w₀ out o i w = length s - i
 
 -- a line's end lies past its start and within the text
 past : (c : tie.After-line-end Inv-loop μ-loop) → c .before .before .loop .i < c .line-end .result
@@ -48,13 +48,13 @@ run-spec =
     turn (d .before .before .loop .inv) (d .before .loop-test .taken) (d .line-end .ensures) _ (sym (line .given .1) ∙ read .ensures) _ refl _ _ (put .ensures .0) (put .ensures .1) (put .kept .0))
     (λ c κs. search needs)
     (λ c κs. search needs)
-    (λ c. let d = c .before .before .before .before .before .before .before .before .before .before .before in omega (arith, past d, inside d))
+    (λ c. let d = c .before .before .before .before .before .before .before .before .before .before in omega (arith, past d, inside d))
     (λ c.
-    let put = c .before .before .before .put-answer2 in
-    let said = c .before .before .before .before .before .apply in
-    let line = c .before .before .before .before .before .before .before .line in
-    let read = c .before .before .before .before .before .before .before .before .before .read-line in
-    let d = c .before .before .before .before .before .before .before .before .before .before .before in
+    let put = c .before .before .put-answer2 in
+    let said = c .before .before .before .before .apply in
+    let line = c .before .before .before .before .before .before .line in
+    let read = c .before .before .before .before .before .before .before .before .read-line in
+    let d = c .before .before .before .before .before .before .before .before .before .before in
     turn (d .before .before .loop .inv) (d .before .loop-test .taken) (d .line-end .ensures) _ (sym (line .given .1) ∙ read .ensures) _ (said .ensures) _ _ (put .ensures .0) (put .ensures .1) (put .kept .0))
     (λ c κs.
     let inv = c .before .before .loop .inv in
