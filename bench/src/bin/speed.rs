@@ -20,13 +20,12 @@ fn seconds(run: Run, sessions: &[Vec<u8>]) -> f64 {
 
 fn main() {
     println!("{:>8} {:>10} {:>14} {:>14} {:>14} {:>14} {:>7}", "calls", "sessions", "proved s/s", "plain s/s", "proved calls/s", "plain calls/s", "ratio");
-    for (calls, count) in [(100usize, 2_000u64), (300, 700), (1_000, 200), (3_000, 70), (10_000, 20)] {
-        // a session above 65,536 bytes is refused whole, so a longer run of calls is cut into sessions that fit
-        let each = calls.min(3_000);
-        let sessions: Vec<Vec<u8>> = (0..count * (calls / each) as u64).map(|seed| session(seed, each)).collect();
+    for (calls, count) in [(100usize, 2_000u64), (300, 700), (1_000, 200), (3_000, 70), (6_000, 35)] {
+        let sessions: Vec<Vec<u8>> = (0..count).map(|seed| session(seed, calls)).collect();
+        assert!(sessions.iter().all(|s| s.len() <= 65_536), "a longer session would be refused whole");
         let ours = seconds(bench::proved::run, &sessions);
         let plain = seconds(bench::session::run, &sessions);
-        let total = (sessions.len() * each) as f64;
+        let total = (sessions.len() * calls) as f64;
         let n = sessions.len() as f64;
         println!("{:>8} {:>10} {:>14.0} {:>14.0} {:>14.0} {:>14.0} {:>7.2}", calls, sessions.len(), n / ours, n / plain, total / ours, total / plain, plain / ours);
     }
