@@ -164,6 +164,47 @@ pub fn session(seed: u64, calls: usize) -> Vec<u8> {
     out
 }
 
+/// A call of a session of short lines: numbers of one digit, but for matches and heats.
+fn short_call(r: &mut Random, board: bool, accounts: u64, late: u64) -> Vec<u64> {
+    let k = r.below(accounts);
+    let l = r.below(accounts);
+    let small = 1 + r.below(9);
+    let j = r.below(1 + late / 2);
+    match (r.below(100), late < 60) {
+        (0..=19, true) | (75..=89, false) => vec![2, k, small],
+        (20..=24, true) | (90..=96, false) => vec![3, k, small],
+        (25..=39, true) => vec![4, k, l, small],
+        (40..=51, true) => if board { vec![7, k, 5_000] } else { vec![5, k, r.below(2)] },
+        (52..=54, true) => vec![6, k, small],
+        (55..=64, true) => vec![8, k, small],
+        (65..=67, true) => vec![9, k],
+        (68..=77, true) => vec![10, k, l],
+        (78..=87, true) | (0..=14, false) => vec![11, small],
+        (88..=94, true) | (15..=54, false) => vec![13, j],
+        (55..=74, false) => vec![15, j],
+        (97..=99, false) => vec![12],
+        _ => vec![15, j],
+    }
+}
+
+/// A session of short lines from a seed: 10,000 calls are within 65,536 bytes.
+pub fn short_session(seed: u64, calls: usize) -> Vec<u8> {
+    let mut r = Random::new(seed);
+    let board = r.chance(40);
+    let mut out = Vec::new();
+    write_line(&mut out, &[0, board as u64, 5, 20, 9]);
+    let accounts = 2 + r.below(8);
+    for n in 0..calls {
+        if (n as u64) < accounts {
+            write_line(&mut out, &[1, r.below(2), 1]);
+        } else {
+            let c = short_call(&mut r, board, accounts, n as u64 * 100 / calls as u64);
+            write_line(&mut out, &c);
+        }
+    }
+    out
+}
+
 /// Damage: bytes changed, put in, taken out, lines blanked or cut, the end lost.
 pub fn damage(r: &mut Random, text: &mut Vec<u8>) {
     for _ in 0..1 + r.below(8) {

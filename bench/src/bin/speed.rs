@@ -1,5 +1,5 @@
 //! Times the proved book and the plain one on the same sessions, in one run.
-use bench::generate::session;
+use bench::generate::{session, short_session};
 use std::time::Instant;
 
 type Run = fn(&[u8], &mut Vec<u8>) -> usize;
@@ -18,10 +18,12 @@ fn seconds(run: Run, sessions: &[Vec<u8>]) -> f64 {
     best
 }
 
-fn main() {
+/// A row for each length: the sessions of seeds 0, 1, .. with so many calls.
+fn table(title: &str, make: fn(u64, usize) -> Vec<u8>, lengths: &[(usize, u64)]) {
+    println!("{title}");
     println!("{:>8} {:>10} {:>14} {:>14} {:>14} {:>14} {:>7}", "calls", "sessions", "proved s/s", "plain s/s", "proved calls/s", "plain calls/s", "ratio");
-    for (calls, count) in [(100usize, 2_000u64), (300, 700), (1_000, 200), (3_000, 70), (6_000, 35)] {
-        let sessions: Vec<Vec<u8>> = (0..count).map(|seed| session(seed, calls)).collect();
+    for &(calls, count) in lengths {
+        let sessions: Vec<Vec<u8>> = (0..count).map(|seed| make(seed, calls)).collect();
         assert!(sessions.iter().all(|s| s.len() <= 65_536), "a longer session would be refused whole");
         let ours = seconds(bench::proved::run, &sessions);
         let plain = seconds(bench::session::run, &sessions);
@@ -29,4 +31,9 @@ fn main() {
         let n = sessions.len() as f64;
         println!("{:>8} {:>10} {:>14.0} {:>14.0} {:>14.0} {:>14.0} {:>7.2}", calls, sessions.len(), n / ours, n / plain, total / ours, total / plain, plain / ours);
     }
+}
+
+fn main() {
+    table("mixed sessions", session, &[(100, 2_000), (300, 700), (1_000, 200), (3_000, 70), (6_000, 35)]);
+    table("short lines", short_session, &[(100, 2_000), (300, 700), (1_000, 200), (3_000, 70), (10_000, 20)]);
 }

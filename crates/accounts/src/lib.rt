@@ -3,7 +3,7 @@ ghost use mathlib.Core.Path.{_≡_};
 ghost use Prim.Native.Nat.{_≤_, _<_};
 ghost use Rattle.book.specs.Answers.{refuse};
 ghost use Rattle.book.specs.Opening.{no-book, opening, next-day};
-ghost use Rattle.book.specs.Accounts.{join, deposit, withdraw, trade-rows, trade};
+ghost use Rattle.book.specs.Accounts.{join, deposit, withdraw, trade};
 ghost use Rattle.book.specs.Lists.{Reached};
 use book::Answer;
 use book::Book;
@@ -104,7 +104,9 @@ pub fn join(mut book: Book, residence: u64, fitness: u64) -> Outcome
             book,
         };
     }
-    book.accounts[k] = rows::new_account(residence, fitness);
+    let mut accounts = book.accounts;
+    accounts[k] = rows::new_account(residence, fitness);
+    book.accounts = accounts;
     book.account_count = k + 1;
     Outcome {
         answer: Answer::Accepted(k as u64),
@@ -143,9 +145,11 @@ pub fn deposit(mut book: Book, account: u64, amount: u64) -> Outcome
         };
     }
     let k = account as usize;
-    let a = book.accounts[k];
+    let mut accounts = book.accounts;
+    let a = accounts[k];
     book.deposited = deposited + amount;
-    book.accounts[k] = rows::credited(a, amount);
+    accounts[k] = rows::credited(a, amount);
+    book.accounts = accounts;
     Outcome {
         answer: Answer::Accepted(0),
         book,
@@ -176,60 +180,16 @@ pub fn withdraw(mut book: Book, account: u64, amount: u64) -> Outcome
         };
     }
     let k = account as usize;
-    let a = book.accounts[k];
+    let mut accounts = book.accounts;
+    let a = accounts[k];
     if rows::cash_below(a, amount) {
         return Outcome {
             answer: Answer::Refused(11),
             book,
         };
     }
-    book.accounts[k] = rows::debited(a, amount);
-    Outcome {
-        answer: Answer::Accepted(0),
-        book,
-    }
-}
-
-// Trade, where the two accounts are there: refusals 9 and 10, and the units.
-fn trade_rows(mut book: Book, buyer: u64, seller: u64, units: u64) -> Outcome
-    requires { ⌜ Reached book ⌝ }
-    requires { ⌜ buyer < book .«account_count» ⌝ }
-    requires { ⌜ seller < book .«account_count» ⌝ }
-    requires { ⌜ (buyer ≡ seller → ⊥) ⌝ }
-    requires { ⌜ units ≤ 1_000 ⌝ }
-    ensures { λ r. ⌜ r ≡ trade-rows book buyer seller units ⌝ }
-{
-    let i = buyer as usize;
-    let j = seller as usize;
-    let bought = book.accounts[i];
-    let sold = book.accounts[j];
-    if rows::is_short(bought) {
-        return Outcome {
-            answer: Answer::Refused(9),
-            book,
-        };
-    }
-    if rows::is_long(sold) {
-        return Outcome {
-            answer: Answer::Refused(9),
-            book,
-        };
-    }
-    if rows::would_pass(bought, units) {
-        return Outcome {
-            answer: Answer::Refused(10),
-            book,
-        };
-    }
-    if rows::would_pass(sold, units) {
-        return Outcome {
-            answer: Answer::Refused(10),
-            book,
-        };
-    }
-    let day = book.day;
-    book.accounts[i] = rows::units_on(bought, Side::Long, units, day);
-    book.accounts[j] = rows::units_on(sold, Side::Short, units, day);
+    accounts[k] = rows::debited(a, amount);
+    book.accounts = accounts;
     Outcome {
         answer: Answer::Accepted(0),
         book,
@@ -237,7 +197,7 @@ fn trade_rows(mut book: Book, buyer: u64, seller: u64, units: u64) -> Outcome
 }
 
 // "4 Trade buyer, seller, units: adds units long to one and short to the other."
-pub fn trade(book: Book, buyer: u64, seller: u64, units: u64) -> Outcome
+pub fn trade(mut book: Book, buyer: u64, seller: u64, units: u64) -> Outcome
     requires { ⌜ Reached book ⌝ }
     ensures { λ r. ⌜ r ≡ trade book buyer seller units ⌝ }
 {
@@ -278,5 +238,41 @@ pub fn trade(book: Book, buyer: u64, seller: u64, units: u64) -> Outcome
             book,
         };
     }
-    trade_rows(book, buyer, seller, units)
+    let i = buyer as usize;
+    let j = seller as usize;
+    let mut accounts = book.accounts;
+    let bought = accounts[i];
+    let sold = accounts[j];
+    if rows::is_short(bought) {
+        return Outcome {
+            answer: Answer::Refused(9),
+            book,
+        };
+    }
+    if rows::is_long(sold) {
+        return Outcome {
+            answer: Answer::Refused(9),
+            book,
+        };
+    }
+    if rows::would_pass(bought, units) {
+        return Outcome {
+            answer: Answer::Refused(10),
+            book,
+        };
+    }
+    if rows::would_pass(sold, units) {
+        return Outcome {
+            answer: Answer::Refused(10),
+            book,
+        };
+    }
+    let day = book.day;
+    accounts[i] = rows::units_on(bought, Side::Long, units, day);
+    accounts[j] = rows::units_on(sold, Side::Short, units, day);
+    book.accounts = accounts;
+    Outcome {
+        answer: Answer::Accepted(0),
+        book,
+    }
 }

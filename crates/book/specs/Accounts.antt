@@ -47,15 +47,6 @@ add-units b k s u = put-account b k (units-on (account-at b k) s u (b .day))
 abbrev pub traded : Book → ℕ → ℕ → ℕ → Book
 traded b buyer seller u = add-units (add-units b buyer Side.Long u) seller Side.Short u
 
--- Trade between accounts that are there: "9 buyer is short or seller long in Trade. 10 a position would pass 1,000."
-unfoldable pub trade-rows : Book → ℕ → ℕ → ℕ → Outcome
-trade-rows b buyer seller u =
-    refuse-if (is-short (account-at b buyer .side)) 9 b
-    (refuse-if (is-long (account-at b seller .side)) 9 b
-    (refuse-if (ltb 1_000 (account-at b buyer .units + u)) 10 b
-    (refuse-if (ltb 1_000 (account-at b seller .units + u)) 10 b
-    (accept 0 (traded b buyer seller u)))))
-
 -- "4 Trade buyer, seller, units: adds units long to one and short to the other."
 unfoldable pub trade : Book → ℕ → ℕ → ℕ → Outcome
 trade b buyer seller u =
@@ -65,4 +56,8 @@ trade b buyer seller u =
     (refuse-if (eqb buyer seller) 7 b
     (refuse-if (ltb u 1) 8 b
     (refuse-if (ltb 1_000 u) 8 b
-    (trade-rows b buyer seller u))))))
+    (refuse-if (is-short (account-at b buyer .side)) 9 b
+    (refuse-if (is-long (account-at b seller .side)) 9 b
+    (refuse-if (ltb 1_000 (account-at b buyer .units + u)) 10 b
+    (refuse-if (ltb 1_000 (account-at b seller .units + u)) 10 b
+    (accept 0 (traded b buyer seller u)))))))))))

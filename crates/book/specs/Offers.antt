@@ -17,15 +17,6 @@ declare b k h =
     (refuse-if (ltb 10_000 h) 8 b
     (accept 0 (put-account b k (with-heat (account-at b k) (Heat.Declared h)))))))
 
--- Offer of units in range by an account that is there: refusals 12 to 19
-unfoldable pub offer-row : Book → ℕ → ℕ → Outcome
-offer-row b seller u =
-    refuse-if (not (offer-missing (account-at b seller .offer))) 12 b
-    (refuse-if (ltb (short-units (account-at b seller)) u) 14 b
-    (refuse-if (not (b .board) && ltb (free-receipts b any-class seller) u) 15 b
-    (refuse-if (b .board && heat-missing (account-at b seller .heat)) 19 b
-    (accept 0 (put-account b seller (with-offer (account-at b seller) (Offer.Units u)))))))
-
 -- "8 Offer seller, units."
 unfoldable pub offer : Book → ℕ → ℕ → Outcome
 offer b seller u =
@@ -33,7 +24,11 @@ offer b seller u =
     (refuse-if (leb (b .«account_count») seller) 6 b
     (refuse-if (ltb u 1) 8 b
     (refuse-if (ltb 1_000 u) 8 b
-    (offer-row b seller u))))
+    (refuse-if (not (offer-missing (account-at b seller .offer))) 12 b
+    (refuse-if (ltb (short-units (account-at b seller)) u) 14 b
+    (refuse-if (not (b .board) && ltb (free-receipts b any-class seller) u) 15 b
+    (refuse-if (b .board && heat-missing (account-at b seller .heat)) 19 b
+    (accept 0 (put-account b seller (with-offer (account-at b seller) (Offer.Units u)))))))))))
 
 -- the offer of account k ends
 abbrev pub end-offer : Book → ℕ → Book
@@ -47,20 +42,16 @@ retract b seller =
     (refuse-if (offer-missing (account-at b seller .offer)) 13 b
     (accept 0 (end-offer b seller))))
 
--- Take of a standing offer of u units: refusals 14, 15 and 20
-unfoldable pub take-up : Book → ℕ → ℕ → ℕ → Outcome
-take-up b buyer seller u =
-    refuse-if (ltb (long-units (account-at b buyer)) u) 14 b
-    (refuse-if (not (b .board) && ltb (free-receipts b any-class seller) u) 15 b
-    (refuse-if (leb 64 (b .«match_count»)) 20 b
-    (accept (b .«match_count») (end-offer (pair b any-class 2 buyer seller u) seller))))
-
 -- "10 Take buyer, seller: the whole offer becomes a match due in 2 days; the offer ends; carries the match number."
 unfoldable pub take-offer : Book → ℕ → ℕ → Outcome
 take-offer b buyer seller =
+    let u = offer-units (account-at b seller .offer) in
     refuse-if (not (b .«open»)) 5 b
     (refuse-if (leb (b .«account_count») buyer) 6 b
     (refuse-if (leb (b .«account_count») seller) 6 b
     (refuse-if (eqb buyer seller) 7 b
     (refuse-if (offer-missing (account-at b seller .offer)) 13 b
-    (take-up b buyer seller (offer-units (account-at b seller .offer)))))))
+    (refuse-if (ltb (long-units (account-at b buyer)) u) 14 b
+    (refuse-if (not (b .board) && ltb (free-receipts b any-class seller) u) 15 b
+    (refuse-if (leb 64 (b .«match_count»)) 20 b
+    (accept (b .«match_count») (end-offer (pair b any-class 2 buyer seller u) seller)))))))))

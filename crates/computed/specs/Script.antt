@@ -13,10 +13,10 @@ use Rattle.book.specs.Codes.{side-number, class-number, state-number, stage-num
 use Rattle.book.specs.Counting.{iter, lowest, tally, sum, total, those}
 use Rattle.book.specs.Tables.{account-at, receipt-at, match-at, pay, charge, free-at, free-receipts, frozen-at, frozen-receipts}
 use Rattle.book.specs.Opening.{opening, next-day}
-use Rattle.book.specs.Accounts.{join, deposit, withdraw, trade-rows, trade}
+use Rattle.book.specs.Accounts.{join, deposit, withdraw, trade}
 use Rattle.book.specs.Receipts.{lodge, strike}
 use Rattle.book.specs.Pairing.{freeze-turn, freeze, pair}
-use Rattle.book.specs.Offers.{declare, offer-row, offer, retract, take-up, take-offer}
+use Rattle.book.specs.Offers.{declare, offer, retract, take-offer}
 use Rattle.book.specs.Closing.{walk, pair-all, insert-by-day, in-order, overseas-buyers, bonded-sellers, buyers, sellers, first-pass, equal-seller, second-turn, second-pass, third-pass, all-passes, lapse-turn, lapse-offers, close}
 use Rattle.book.specs.Settlement.{value, seller-fault, buyer-fault, penalty, punish, release-turn, free-again, pass-turn, pass-receipts, settle-receipts, settle-board, settle-ended, settled, settle, amount-due, measured, measure, invoice, terminated, terminate}
 use Rattle.book.specs.Calls.{step}
@@ -97,7 +97,7 @@ book-of kind t r p = opening kind t r p .book
 
 -- the answers of a script's calls from an opening
 unfoldable pub play : ℕ → ℕ → ℕ → ℕ → List Line → List Line
-unfolding half-up percent-down percent-half-up settled-heat price-by-heat less-short-heat less-sulphur by-sulphur by-volatiles by-ash coal-price weight-within by-moisture coal-weight amount iter lowest tally sum total those pay charge free-at free-receipts frozen-at frozen-receipts opening join deposit withdraw next-day trade-rows trade lodge strike freeze-turn freeze pair declare offer-row offer retract take-up take-offer walk pair-all insert-by-day in-order overseas-buyers bonded-sellers buyers sellers first-pass equal-seller second-turn second-pass third-pass all-passes lapse-turn lapse-offers close value seller-fault buyer-fault penalty punish release-turn free-again pass-turn pass-receipts settle-receipts settle-board settle-ended settled settle amount-due measured measure invoice terminated terminate step book-of
+unfolding half-up percent-down percent-half-up settled-heat price-by-heat less-short-heat less-sulphur by-sulphur by-volatiles by-ash coal-price weight-within by-moisture coal-weight amount iter lowest tally sum total those pay charge free-at free-receipts frozen-at frozen-receipts opening join deposit withdraw next-day trade lodge strike freeze-turn freeze pair declare offer retract take-offer walk pair-all insert-by-day in-order overseas-buyers bonded-sellers buyers sellers first-pass equal-seller second-turn second-pass third-pass all-passes lapse-turn lapse-offers close value seller-fault buyer-fault penalty punish release-turn free-again pass-turn pass-receipts settle-receipts settle-board settle-ended settled settle amount-due measured measure invoice terminated terminate step book-of
 play kind t r p ls = answered (book-of kind t r p) (calls ls)
 
 -- the answer to one call after a list of calls from an opening

@@ -3,7 +3,7 @@ ghost use mathlib.Core.Path.{_≡_};
 ghost use mathlib.Core.Bool.{_&&_};
 ghost use Prim.Native.Nat.{_≤_, _<_};
 ghost use Rattle.book.specs.Rows.{heat-missing};
-ghost use Rattle.book.specs.Offers.{declare, offer-row, offer, retract};
+ghost use Rattle.book.specs.Offers.{declare, offer, retract};
 ghost use Rattle.book.specs.Lists.{Reached};
 use book::Account;
 use book::Answer;
@@ -40,8 +40,10 @@ pub fn declare(mut book: Book, account: u64, heat: u64) -> Outcome
         };
     }
     let k = account as usize;
-    let a = book.accounts[k];
-    book.accounts[k] = rows::with_heat(a, heat);
+    let mut accounts = book.accounts;
+    let a = accounts[k];
+    accounts[k] = rows::with_heat(a, heat);
+    book.accounts = accounts;
     Outcome {
         answer: Answer::Accepted(0),
         book,
@@ -59,48 +61,8 @@ fn lacks_heat(board: bool, a: Account) -> bool
     false
 }
 
-// Offer, where the account is there and the units are in range: refusals 12 to 19, and the offer.
-fn offer_row(mut book: Book, seller: u64, units: u64) -> Outcome
-    requires { ⌜ Reached book ⌝ }
-    requires { ⌜ seller < book .«account_count» ⌝ }
-    requires { ⌜ units ≤ 1_000 ⌝ }
-    ensures { λ r. ⌜ r ≡ offer-row book seller units ⌝ }
-{
-    let k = seller as usize;
-    let a = book.accounts[k];
-    if !rows::offer_missing(a) {
-        return Outcome {
-            answer: Answer::Refused(12),
-            book,
-        };
-    }
-    if rows::short_units(a) < units {
-        return Outcome {
-            answer: Answer::Refused(14),
-            book,
-        };
-    }
-    if receipts::lacks_receipts(book.board, book.receipts, book.receipt_count, seller, units) {
-        return Outcome {
-            answer: Answer::Refused(15),
-            book,
-        };
-    }
-    if lacks_heat(book.board, a) {
-        return Outcome {
-            answer: Answer::Refused(19),
-            book,
-        };
-    }
-    book.accounts[k] = rows::with_units_offered(a, units);
-    Outcome {
-        answer: Answer::Accepted(0),
-        book,
-    }
-}
-
 // "8 Offer seller, units."
-pub fn offer(book: Book, seller: u64, units: u64) -> Outcome
+pub fn offer(mut book: Book, seller: u64, units: u64) -> Outcome
     requires { ⌜ Reached book ⌝ }
     ensures { λ r. ⌜ r ≡ offer book seller units ⌝ }
 {
@@ -128,7 +90,40 @@ pub fn offer(book: Book, seller: u64, units: u64) -> Outcome
             book,
         };
     }
-    offer_row(book, seller, units)
+    let k = seller as usize;
+    let mut accounts = book.accounts;
+    let a = accounts[k];
+    if !rows::offer_missing(a) {
+        return Outcome {
+            answer: Answer::Refused(12),
+            book,
+        };
+    }
+    if rows::short_units(a) < units {
+        return Outcome {
+            answer: Answer::Refused(14),
+            book,
+        };
+    }
+    let lodged = book.receipts;
+    if receipts::lacks_receipts(book.board, lodged, book.receipt_count, seller, units) {
+        return Outcome {
+            answer: Answer::Refused(15),
+            book,
+        };
+    }
+    if lacks_heat(book.board, a) {
+        return Outcome {
+            answer: Answer::Refused(19),
+            book,
+        };
+    }
+    accounts[k] = rows::with_units_offered(a, units);
+    book.accounts = accounts;
+    Outcome {
+        answer: Answer::Accepted(0),
+        book,
+    }
 }
 
 // "9 Retract seller."
@@ -149,14 +144,16 @@ pub fn retract(mut book: Book, seller: u64) -> Outcome
         };
     }
     let k = seller as usize;
-    let a = book.accounts[k];
+    let mut accounts = book.accounts;
+    let a = accounts[k];
     if rows::offer_missing(a) {
         return Outcome {
             answer: Answer::Refused(13),
             book,
         };
     }
-    book.accounts[k] = rows::with_offer_ended(a);
+    accounts[k] = rows::with_offer_ended(a);
+    book.accounts = accounts;
     Outcome {
         answer: Answer::Accepted(0),
         book,

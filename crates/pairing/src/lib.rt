@@ -3,7 +3,7 @@ ghost use mathlib.Core.Path.{_≡_};
 ghost use Prim.Native.Nat.{_≤_, _<_, _+_};
 ghost use Rattle.book.specs.Counting.{iter};
 ghost use Rattle.book.specs.Pairing.{freeze-turn, pair};
-ghost use Rattle.book.specs.Offers.{take-up, take-offer};
+ghost use Rattle.book.specs.Offers.{take-offer};
 ghost use Rattle.book.specs.Lists.{Reached};
 use book::Answer;
 use book::Book;
@@ -83,43 +83,6 @@ pub fn pair(
     book
 }
 
-// Take, where buyer and seller are there and so many units are offered.
-fn take_up(book: Book, buyer: u64, seller: u64, units: u64) -> Outcome
-    requires { ⌜ buyer < 32 ⌝ }
-    requires { ⌜ seller < 32 ⌝ }
-    requires { ⌜ units ≤ 1_000 ⌝ }
-    requires { ⌜ Reached book ⌝ }
-    ensures { λ r. ⌜ r ≡ take-up book buyer seller units ⌝ }
-{
-    let number = book.match_count;
-    let i = buyer as usize;
-    let j = seller as usize;
-    if rows::long_units(book.accounts[i]) < units {
-        return Outcome {
-            answer: Answer::Refused(14),
-            book,
-        };
-    }
-    if receipts::lacks_receipts(book.board, book.receipts, book.receipt_count, seller, units) {
-        return Outcome {
-            answer: Answer::Refused(15),
-            book,
-        };
-    }
-    if Book::TAKE_MATCHES <= number {
-        return Outcome {
-            answer: Answer::Refused(20),
-            book,
-        };
-    }
-    let mut next = pair(book, false, 2, buyer, seller, units);
-    next.accounts[j] = rows::with_offer_ended(next.accounts[j]);
-    Outcome {
-        answer: Answer::Accepted(number as u64),
-        book: next,
-    }
-}
-
 // "10 Take buyer, seller: the whole offer becomes a match due in 2 days; the offer ends; carries the match number."
 pub fn take_offer(book: Book, buyer: u64, seller: u64) -> Outcome
     requires { ⌜ Reached book ⌝ }
@@ -151,12 +114,40 @@ pub fn take_offer(book: Book, buyer: u64, seller: u64) -> Outcome
         };
     }
     let j = seller as usize;
-    let a = book.accounts[j];
+    let accounts = book.accounts;
+    let a = accounts[j];
     if rows::offer_missing(a) {
         return Outcome {
             answer: Answer::Refused(13),
             book,
         };
     }
-    take_up(book, buyer, seller, rows::offer_units(a))
+    let units = rows::offer_units(a);
+    let number = book.match_count;
+    let i = buyer as usize;
+    if rows::long_units(accounts[i]) < units {
+        return Outcome {
+            answer: Answer::Refused(14),
+            book,
+        };
+    }
+    let lodged = book.receipts;
+    if receipts::lacks_receipts(book.board, lodged, book.receipt_count, seller, units) {
+        return Outcome {
+            answer: Answer::Refused(15),
+            book,
+        };
+    }
+    if Book::TAKE_MATCHES <= number {
+        return Outcome {
+            answer: Answer::Refused(20),
+            book,
+        };
+    }
+    let mut next = pair(book, false, 2, buyer, seller, units);
+    next.accounts[j] = rows::with_offer_ended(next.accounts[j]);
+    Outcome {
+        answer: Answer::Accepted(number as u64),
+        book: next,
+    }
 }

@@ -79,7 +79,9 @@ pub fn lodge(mut book: Book, owner: u64, class: u64) -> Outcome
             book,
         };
     }
-    book.receipts[i] = rows::new_receipt(owner, class);
+    let mut receipts = book.receipts;
+    receipts[i] = rows::new_receipt(owner, class);
+    book.receipts = receipts;
     book.receipt_count = i + 1;
     Outcome {
         answer: Answer::Accepted(i as u64),
@@ -111,7 +113,8 @@ pub fn strike(mut book: Book, owner: u64, receipt: u64) -> Outcome
         };
     }
     let i = receipt as usize;
-    let r = book.receipts[i];
+    let mut receipts = book.receipts;
+    let r = receipts[i];
     if !rows::is_owned_by(r, owner) {
         return Outcome {
             answer: Answer::Refused(17),
@@ -130,7 +133,8 @@ pub fn strike(mut book: Book, owner: u64, receipt: u64) -> Outcome
             book,
         };
     }
-    book.receipts[i] = rows::struck(r);
+    receipts[i] = rows::struck(r);
+    book.receipts = receipts;
     Outcome {
         answer: Answer::Accepted(0),
         book,

@@ -9,7 +9,7 @@ use Rattle.book.specs.Counting.{iter, tally, one-if}
 turns : (n i : ℕ) → i < n → n - i ≡ suc (n - (i + 1))
 turns n i h = omega arith
 
-none-left : (n i : ℕ) → n ≤ i → n - i ≡ 0
+pub none-left : (n i : ℕ) → n ≤ i → n - i ≡ 0
 none-left n i h = omega arith
 
 -- the turns that are left, of the present state, come to the whole

@@ -9,6 +9,7 @@ ghost use Rattle.text.specs.Print.{Put};
 ghost use Rattle.session.specs.Session.{told, opened, room, Delivered};
 use book::Answer;
 use book::Book;
+use book::Call;
 use book::Outcome;
 use text::Line;
 use text::OpeningLine;
@@ -35,7 +36,36 @@ fn run(book: Book, s: &[u8], from: usize, out: &mut [u8], at: usize) -> usize
             w = text::put_answer(out, w, Answer::Refused(26));
             continue;
         };
-        o = calls::apply(o.book, call);
+        match call {
+            Call::Join { residence, fitness } => o = accounts::join(o.book, residence, fitness),
+            Call::Deposit { account, amount } => o = accounts::deposit(o.book, account, amount),
+            Call::Withdraw { account, amount } => o = accounts::withdraw(o.book, account, amount),
+            Call::Trade {
+                buyer,
+                seller,
+                units,
+            } => o = accounts::trade(o.book, buyer, seller, units),
+            Call::Lodge { owner, class } => o = receipts::lodge(o.book, owner, class),
+            Call::Strike { owner, receipt } => o = receipts::strike(o.book, owner, receipt),
+            Call::Declare { account, heat } => o = offers::declare(o.book, account, heat),
+            Call::Offer { seller, units } => o = offers::offer(o.book, seller, units),
+            Call::Retract { seller } => o = offers::retract(o.book, seller),
+            Call::Take { buyer, seller } => o = pairing::take_offer(o.book, buyer, seller),
+            Call::Day { price } => o = accounts::next_day(o.book, price),
+            Call::Close => o = closing::close(o.book),
+            Call::Settle { number } => o = settlement::settle(o.book, number),
+            Call::Measure {
+                number,
+                w,
+                q,
+                m,
+                s,
+                f,
+                a,
+            } => o = settlement::measure(o.book, number, w, q, m, s, f, a),
+            Call::Invoice { number } => o = settlement::invoice(o.book, number),
+            Call::Terminate { number, party } => o = settlement::terminate(o.book, number, party),
+        }
         let answer = o.answer;
         w = text::put_answer(out, w, answer);
     }

@@ -42,8 +42,10 @@ fn pay(mut book: Book, account: u8, amount: u64) -> Book
     ensures { λ r. ⌜ r ≡ pay book account amount ⌝ }
 {
     let k = account as usize;
-    let a = book.accounts[k];
-    book.accounts[k] = rows::credited(a, amount);
+    let mut accounts = book.accounts;
+    let a = accounts[k];
+    accounts[k] = rows::credited(a, amount);
+    book.accounts = accounts;
     book
 }
 
@@ -55,8 +57,10 @@ fn charge(mut book: Book, account: u8, amount: u64) -> Book
     ensures { λ r. ⌜ r ≡ charge book account amount ⌝ }
 {
     let k = account as usize;
-    let a = book.accounts[k];
-    book.accounts[k] = rows::debited(a, amount);
+    let mut accounts = book.accounts;
+    let a = accounts[k];
+    accounts[k] = rows::debited(a, amount);
+    book.accounts = accounts;
     book
 }
 
@@ -66,8 +70,10 @@ fn set_stage(mut book: Book, number: u64, held: u64, stage: Stage) -> Book
     ensures { λ r. ⌜ r ≡ set-stage book number held stage ⌝ }
 {
     let j = number as usize;
-    let m = book.matches[j];
-    book.matches[j] = rows::with_held(m, held, stage);
+    let mut matches = book.matches;
+    let m = matches[j];
+    matches[j] = rows::with_held(m, held, stage);
+    book.matches = matches;
     book
 }
 
@@ -264,12 +270,14 @@ fn settle_due(book: Book, number: u64) -> Book
     ensures { λ r. ⌜ r ≡ settled book number (match-at book number) (buyer-fault book number) (seller-fault book number) ⌝ }
 {
     let j = number as usize;
-    let m = book.matches[j];
+    let matches = book.matches;
+    let m = matches[j];
     let v = value(m, book.tonnes);
     let k = m.buyer as usize;
-    let buyer = book.accounts[k];
+    let accounts = book.accounts;
+    let buyer = accounts[k];
     let i = m.seller as usize;
-    let seller = book.accounts[i];
+    let seller = accounts[i];
     let receipts = book.receipts;
     let frozen = frozen_receipts(receipts, book.receipt_count, number);
     let x = fault(buyer.fit, rows::cash_below(buyer, v), book.rate);
@@ -289,7 +297,8 @@ pub fn settle(book: Book, number: u64) -> Outcome
         };
     }
     let j = number as usize;
-    let m = book.matches[j];
+    let matches = book.matches;
+    let m = matches[j];
     if !rows::is_paired(m) {
         return Outcome {
             answer: Answer::Refused(22),
@@ -365,7 +374,8 @@ pub fn measure(book: Book, number: u64, w: u64, q: u64, m: u64, s: u64, f: u64, 
         };
     }
     let j = number as usize;
-    let c = book.matches[j];
+    let matches = book.matches;
+    let c = matches[j];
     if !rows::is_prepaid(c) {
         return Outcome {
             answer: Answer::Refused(22),
@@ -401,7 +411,8 @@ pub fn invoice(book: Book, number: u64) -> Outcome
         };
     }
     let j = number as usize;
-    let m = book.matches[j];
+    let matches = book.matches;
+    let m = matches[j];
     if !rows::is_held(m) {
         return Outcome {
             answer: Answer::Refused(22),
@@ -454,7 +465,8 @@ pub fn terminate(book: Book, number: u64, party: u64) -> Outcome
         };
     }
     let j = number as usize;
-    let m = book.matches[j];
+    let matches = book.matches;
+    let m = matches[j];
     if !rows::is_prepaid(m) {
         return Outcome {
             answer: Answer::Refused(22),

@@ -11,15 +11,12 @@ use borrow.Author.Tests.{eqb-true}
 use Rattle.coal.specs.Choice.{pick}
 use Rattle.book.specs.declared.Call.{Call}
 use Rattle.book.specs.Codes.{call-number}
+use Rattle.book.specs.laws.Counting.{by-pick}
 use Rattle.text.specs.declared.lines.Line.{Line}
 use Rattle.text.specs.declared.lines.OpeningLine.{OpeningLine}
 use Rattle.text.specs.Numbers.{is-digit, takes-digit, ends-number, ends-line, numbers-on, numbers}
 use Rattle.text.specs.Lines.{arguments, call-of, line-of, opening-of, opening-line-of}
 use Rattle.text.proofs.Reading.{digit-bounds, digits-few, value-more}
-
-by-pick : {A : Type 0} (P : A → Type 0) (t : Bool) {a b : A} → (t ≡ true → P a) → (t ≡ false → P b) → P (pick t a b)
-by-pick P true f g = f refl
-by-pick P false f g = g refl
 
 -- ---- the numbers are small
 

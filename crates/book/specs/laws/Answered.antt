@@ -19,10 +19,10 @@ use Rattle.book.specs.Rows.{with-heat, with-offer, with-state, long-unit
 use Rattle.book.specs.Tables.{account-at, receipt-at, match-at, add-account, add-receipt, put-account, put-receipt, with-deposited, with-day, with-open, pay, charge, free-receipts}
 use Rattle.book.specs.Answers.{refuse, refuse-if, accept}
 use Rattle.book.specs.Opening.{fresh, opening, next-day}
-use Rattle.book.specs.Accounts.{join, deposit, withdraw, new-account, trade-rows, trade, traded}
+use Rattle.book.specs.Accounts.{join, deposit, withdraw, new-account, trade, traded}
 use Rattle.book.specs.Receipts.{lodge, strike, new-receipt}
 use Rattle.book.specs.Pairing.{pair}
-use Rattle.book.specs.Offers.{declare, offer-row, offer, retract, take-up, take-offer, end-offer}
+use Rattle.book.specs.Offers.{declare, offer, retract, take-offer, end-offer}
 use Rattle.book.specs.Closing.{close, all-passes, lapse-offers}
 use Rattle.book.specs.Settlement.{set-stage, settle, settled, buyer-fault, seller-fault, measure, measured, amount-due, invoice, terminate, terminated}
 use Rattle.book.specs.Calls.{step}
@@ -239,7 +239,7 @@ withdraw-answered b k x =
     withdraws (record { there = leb-false _ _ h₁; some = ltb-false _ _ h₂; few = ltb-false _ _ h₃; enough = h₄ })))))
 
 trade-answered : (b : Book) (buyer seller u : ℕ) → Answered b (Call.Trade buyer seller u) (trade b buyer seller u)
-unfolding trade trade-rows
+unfolding trade
 trade-answered b buyer seller u =
     test (not (b .«open»)) 5 (λ h₁.
     test (leb (b .«account_count») buyer) 6 (λ h₂.
@@ -283,7 +283,7 @@ declare-answered b k h =
     declares (record { is-board = not-false _ h₁; there = leb-false _ _ h₂; low = ltb-false _ _ h₃; high = ltb-false _ _ h₄ })))))
 
 offer-answered : (b : Book) (seller u : ℕ) → Answered b (Call.Offer seller u) (offer b seller u)
-unfolding offer offer-row
+unfolding offer
 offer-answered b seller u =
     test (not (b .«open»)) 5 (λ h₁.
     test (leb (b .«account_count») seller) 6 (λ h₂.
@@ -304,7 +304,7 @@ retract-answered b seller =
     retracts (record { is-open = not-false _ h₁; there = leb-false _ _ h₂; stands = standing-is _ h₃ }))))
 
 take-offer-answered : (b : Book) (buyer seller : ℕ) → Answered b (Call.Take buyer seller) (take-offer b buyer seller)
-unfolding take-offer take-up
+unfolding take-offer
 take-offer-answered b buyer seller =
     let u = offer-units (account-at b seller .offer) in
     test (not (b .«open»)) 5 (λ h₁.

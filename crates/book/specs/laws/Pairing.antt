@@ -131,11 +131,15 @@ core-match b c h m r = record {
   receipts = receipts-rematched (b .«match_count» + 1) (b .«match_count») c (omega arith) (λ k g d. omega arith) (beyond-none (r .receipts)) (r .receipts);
 }
 
+-- whatever units an account loses
+off-core : (b : Book) (k u : ℕ) → k < b .«account_count» → Core b → Core (take-units b k u)
+off-core b k u h r = core-put k (units-off (account-at b k) u) r (off-sound (account-at b k) u (r .accounts .rows k h))
+
 taken-core : (b : Book) (days buyer seller u : ℕ) → days ≤ 2 → Pairable b buyer seller u → Core b → Core (taken b days buyer seller u)
 taken-core b days buyer seller u d p r =
-    let c₀ = core-match b (new-match b buyer seller u days) (p .room) (new-sound b days buyer seller u d p r) r in
-    let c₁ = core-put buyer (units-off (account-at b buyer) u) c₀ (off-sound (account-at b buyer) u (r .accounts .rows buyer (p .buyer-there))) in
-    core-put seller (units-off (account-at (take-units b buyer u) seller) u) c₁ (off-sound (account-at (take-units b buyer u) seller) u (c₁ .accounts .rows seller (p .seller-there)))
+    off-core _ seller _ (p .seller-there)
+    (off-core _ buyer _ (p .buyer-there)
+    (core-match b (new-match b buyer seller u days) (p .room) (new-sound b days buyer seller u d p r) r))
 
 -- what a pairing leaves of book b
 pub record Paired (b : Book) (days buyer seller u : ℕ) (e : Book) : Type 0 where

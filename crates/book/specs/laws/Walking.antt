@@ -51,7 +51,8 @@ module _ (u : ℕ) (x : Listed) (xs : List Listed) where
   pub use-up-all : (Q : Listed → Type 0) → (0 < x .left - u → Q (record { account = x .account; left = x .left - u })) → All Q xs → All Q (use-up u x xs)
   use-up-all Q h g = by-pick (All Q) (eqb (x .left - u) 0) (λ e. g) (λ e. let z = eqb-false (x .left - u) 0 e in (h (omega arith), g))
 
-  use-up-length : length (use-up u x xs) ≤ length xs + min 1 (x .left - u)
+  -- whoever is used up is dropped
+  pub use-up-length : length (use-up u x xs) ≤ length xs + min 1 (x .left - u)
   use-up-length = by-pick (λ (l : List Listed). length l ≤ length xs + min 1 (x .left - u)) (eqb (x .left - u) 0) (λ e. omega arith) (λ e. let z = eqb-false (x .left - u) 0 e in omega arith)
 
 pub front-left : (x : Listed) (xs : List Listed) → x .left ≤ left-of (x .account) (x ∷ xs)

@@ -25,7 +25,7 @@ strike-spec =
     (λ c. search calls)
     (λ c. search calls)
     (λ c.
-    let r = c .before .before .before .before .before .before .before .before in
+    let r = c .before .before .before .before .before .before .before .before .before in
     rw (c .struck .ensures)
     (past _ _ _ _ _ (r .before .before .if1 .left)
     (past-leb _ _ _ _ _ _ (r .before .if2 .left)

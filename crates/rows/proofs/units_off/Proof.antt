@@ -3,14 +3,12 @@ use mathlib.Core.Path.{_≡_}
 use mathlib.Core.Bool.{false}
 use native.Mathlib.Omega.{arith}
 use borrow.Author.Tests.{ne-eqb}
-use Prim.Native.Nat.{ℕ, _-_, _≤_, _<_}
+use Prim.Native.Nat.{ℕ, _-_, _<_}
 use lib.Dec.{eqb}
 use borrow.Author.Needs.{needs}
+use Rattle.rows.specs.Loops.{none-left}
 use Rattle.rows.proofs.units_off.Statement.{statement}
 use Rattle.rows.proofs.units_off.Tie as tie
-
-none-left : (n i : ℕ) → n ≤ i → n - i ≡ 0
-none-left n i h = omega arith
 
 some-left : (n i : ℕ) → i < n → eqb (n - i) 0 ≡ false
 some-left n i h = ne-eqb (n - i) 0 (λ (e : n - i ≡ 0). omega arith)

@@ -1,12 +1,15 @@
 -- `run` meets its contract: the loop goes line by line, and who writes what is told from there on has written all. Assumes nothing.
 use mathlib.Core.Path.{_≡_, refl, sym, _∙_}
+use mathlib.Core.Logic.{⊎-elim}
 use Prim.Native.Nat.{ℕ, _-_, _≤_, _<_}
 use native.Mathlib.Omega.{arith}
 use borrow.Author.Needs.{needs}
 use lib.ListN.{length}
 use denote.Ref.{now}
+use Rattle.book.specs.Calls.{step}
 use Rattle.book.specs.laws.Reaching.{sound}
 use Rattle.text.proofs.Cutting.{end-past, end-within}
+use Rattle.session.specs.Session.{reply}
 use Rattle.session.proofs.Running.{Running, turn, ended}
 use Rattle.session.proofs.run.Statement.{statement}
 use Rattle.session.proofs.run.Tie as tie
@@ -23,6 +26,28 @@ past c = end-past (now (c .before .before .before .before .before .args .s)) _ _
 
 inside : (c : tie.After-line-end Inv-loop μ-loop) → c .line-end .result ≤ length (now (c .before .before .before .before .before .args .s))
 inside c = end-within (now (c .before .before .before .before .before .args .s)) _ _ (c .before .loop-test .taken) (c .line-end .ensures)
+
+-- whichever call it is, the outcome is the machine's reply to the line
+replied : (c : tie.At-match2-came Inv-loop μ-loop) → c .match2 .o ≡ reply (c .before .before .before .before .before .before .before .before .loop .o .book) (c .before .before .before .before .read-line .result)
+unfolding step
+replied c =
+    let read = c .before .before .line .given .1 in
+    ⊎-elim (λ w. rw (read, w .1 .given .1) (w .4 ∙ w .3 .ensures))
+    (⊎-elim (λ w. rw (read, w .1 .given .1) (w .4 ∙ w .3 .ensures))
+    (⊎-elim (λ w. rw (read, w .1 .given .1) (w .4 ∙ w .3 .ensures))
+    (⊎-elim (λ w. rw (read, w .1 .given .1) (w .4 ∙ w .3 .ensures))
+    (⊎-elim (λ w. rw (read, w .1 .given .1) (w .4 ∙ w .3 .ensures))
+    (⊎-elim (λ w. rw (read, w .1 .given .1) (w .4 ∙ w .3 .ensures))
+    (⊎-elim (λ w. rw (read, w .1 .given .1) (w .4 ∙ w .3 .ensures))
+    (⊎-elim (λ w. rw (read, w .1 .given .1) (w .4 ∙ w .3 .ensures))
+    (⊎-elim (λ w. rw (read, w .1 .given .1) (w .4 ∙ w .3 .ensures))
+    (⊎-elim (λ w. rw (read, w .1 .given .1) (w .4 ∙ w .3 .ensures))
+    (⊎-elim (λ w. rw (read, w .1 .given .1) (w .4 ∙ w .3 .ensures))
+    (⊎-elim (λ w. rw (read, w .1 .given .1) (w .3 ∙ w .2 .ensures))
+    (⊎-elim (λ w. rw (read, w .1 .given .1) (w .4 ∙ w .3 .ensures))
+    (⊎-elim (λ w. rw (read, w .1 .given .1) (w .4 ∙ w .3 .ensures))
+    (⊎-elim (λ w. rw (read, w .1 .given .1) (w .4 ∙ w .3 .ensures))
+    (λ w. rw (read, w .1 .given .1) (w .4 ∙ w .3 .ensures)))))))))))))))) (c .match2 .came)
 
 pub run-spec : {M : Type 1} → statement M
 run-spec =
@@ -46,16 +71,30 @@ run-spec =
     let d = c .before .before .before .before .before .before .before .before in
     let put = c .before .before .put-answer in
     turn (d .before .before .loop .inv) (d .before .loop-test .taken) (d .line-end .ensures) _ (sym (line .given .1) ∙ read .ensures) _ refl _ _ (put .ensures .0) (put .ensures .1) (put .kept .0))
-    (λ c κs. search needs)
+    (λ c. search needs) (λ c κs. search needs)
+    (λ c. search needs) (λ c κs. search needs)
+    (λ c. search needs) (λ c κs. search needs)
+    (λ c. search needs) (λ c κs. search needs)
+    (λ c. search needs) (λ c κs. search needs)
+    (λ c. search needs) (λ c κs. search needs)
+    (λ c. search needs) (λ c κs. search needs)
+    (λ c. search needs) (λ c κs. search needs)
+    (λ c. search needs) (λ c κs. search needs)
+    (λ c. search needs) (λ c κs. search needs)
+    (λ c. search needs) (λ c κs. search needs)
+    (λ c. search needs) (λ c κs. search needs)
+    (λ c. search needs) (λ c κs. search needs)
+    (λ c. search needs) (λ c κs. search needs)
+    (λ c. search needs) (λ c κs. search needs)
+    (λ c. search needs) (λ c κs. search needs)
     (λ c κs. search needs)
     (λ c. let d = c .before .before .before .before .before .before .before .before .before .before in omega (arith, past d, inside d))
     (λ c.
     let put = c .before .before .put-answer2 in
-    let said = c .before .before .before .before .apply in
-    let line = c .before .before .before .before .before .before .line in
-    let read = c .before .before .before .before .before .before .before .before .read-line in
-    let d = c .before .before .before .before .before .before .before .before .before .before in
-    turn (d .before .before .loop .inv) (d .before .loop-test .taken) (d .line-end .ensures) _ (sym (line .given .1) ∙ read .ensures) _ (said .ensures) _ _ (put .ensures .0) (put .ensures .1) (put .kept .0))
+    let said = c .before .before .before .before in
+    let read = said .before .before .before .before .read-line in
+    let d = said .before .before .before .before .before .before in
+    turn (d .before .before .loop .inv) (d .before .loop-test .taken) (d .line-end .ensures) _ (read .ensures) _ (replied said) _ _ (put .ensures .0) (put .ensures .1) (put .kept .0))
     (λ c κs.
     let inv = c .before .before .loop .inv in
     let rows = sound (inv .reached) .tables .core in

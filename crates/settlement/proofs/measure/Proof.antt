@@ -23,4 +23,4 @@ measure-spec =
     (λ c κs. search calls)
     (λ c κs. (search calls, (search calls, (search (calls, money), search calls))))
     (λ c κs. search (calls, money))
-    (λ c. rw (c .measured .ensures, c .before .amount-due .ensures .0) (search (chain, any-of-six, c .before .before .before .before .before .before .before .before .before .if1 .left, c .before .before .before .before .before .before .before .before .if2 .left, c .before .before .before .before .before .before .is-prepaid .ensures, c .before .before .before .before .before .if3 .left, c .before .before .before .before .out-of-range .ensures, c .before .before .before .if4 .left))))
+    (λ c. rw (c .measured .ensures, c .before .amount-due .ensures .0) (search (chain, any-of-six, c .before .before .before .before .before .before .before .before .before .before .if1 .left, c .before .before .before .before .before .before .before .before .before .if2 .left, c .before .before .before .before .before .before .is-prepaid .ensures, c .before .before .before .before .before .if3 .left, c .before .before .before .before .out-of-range .ensures, c .before .before .before .if4 .left))))
