@@ -8,7 +8,7 @@ use Rattle.book.specs.declared.Book.{Book}
 use Rattle.book.specs.Pairing.{freeze, pair}
 use Rattle.book.specs.Closing.{Pair, pair-all}
 use Rattle.book.specs.Lists.{Reached}
-use Rattle.rows.specs.Needs.{price-small, day-small, accounts-few, receipts-few}
+use Rattle.rows.specs.Needs.{calls}
 use Rattle.book.specs.laws.Counting.{by-pick}
 
 -- what a pairing asks of a book, but for room
@@ -19,16 +19,16 @@ pub record Ready (b : Book) : Type 0 where
   pub receipts-few : b .«receipt_count» ≤ 256
 
 pub ready : (b : Book) → Reached b → Ready b
-ready b r = record { price-few = price-small b r; day-few = day-small b r; accounts-few = accounts-few b r; receipts-few = receipts-few b r }
+ready b r = search calls
 
--- book e comes after b by pairings
+-- what a book e that comes after b by pairings has of it
 pub record Follows (b e : Book) : Type 0 where
   pub ready : Ready b → Ready e
   pub accounts : e .«account_count» ≡ b .«account_count»
   pub more : b .«match_count» ≤ e .«match_count»
 
 pub stays : (b : Book) → Follows b b
-stays b = record { ready = λ r. r; accounts = refl; more = omega arith }
+stays b = omega arith
 
 pub then : {b e d : Book} → Follows b e → Follows e d → Follows b d
 then f g = record { ready = λ r. g .ready (f .ready r); accounts = g .accounts ∙ f .accounts; more = omega (arith, f .more, g .more) }
@@ -40,10 +40,7 @@ module _ (b : Book) (c : Bool) (days buyer seller u : ℕ) where
 
   pub pair-follows : Follows b (pair b c days buyer seller u)
   unfolding pair freeze
-  pair-follows =
-      by-pick (Follows b) (b .board)
-      (λ q. record { ready = λ r. record { price-few = r .price-few; day-few = r .day-few; accounts-few = r .accounts-few; receipts-few = r .receipts-few }; accounts = refl; more = omega arith })
-      (λ q. record { ready = λ r. record { price-few = r .price-few; day-few = r .day-few; accounts-few = r .accounts-few; receipts-few = r .receipts-few }; accounts = refl; more = omega arith })
+  pair-follows = by-pick (Follows b) (b .board) (λ q. omega arith) (λ q. omega arith)
 
 pub all-follow : (c : Bool) (ps : List Pair) (b : Book) → Follows b (pair-all c ps b)
 unfolding pair-all

@@ -1,64 +1,25 @@
 -- Settle in a board book with every pair of faults; Terminate by each party, and with a party that is none. Assumes nothing.
 use mathlib.Core.Path.{_≡_, refl}
-use mathlib.Core.List.{List, [], _∷_}
+use mathlib.Core.List.{List, [], _∷_, _++_}
 use lib.IntN.{pos}
 use Rattle.book.specs.declared.Call.{Call}
-use Rattle.computed.specs.Script.{Line, line, ok, no, play, owes, account, matched, fund, ledger-after, sums-after}
+use Rattle.computed.specs.Script.{Line, line, ok, no, play, account, matched, ledger-after, sums-after}
+use Rattle.computed.specs.Faults.{joined, settled, punished, ended, owed}
 
 abbrev script : List Line
 script =
-    line (Call.Join 0 1) (ok 0)
-    ∷ line (Call.Join 0 1) (ok 1)
-    ∷ line (Call.Join 0 1) (ok 2)
-    ∷ line (Call.Join 0 0) (ok 3)
-    ∷ line (Call.Join 0 1) (ok 4)
-    ∷ line (Call.Join 0 1) (ok 5)
-    ∷ line (Call.Join 0 0) (ok 6)
-    ∷ line (Call.Join 0 1) (ok 7)
-    ∷ line (Call.Join 0 0) (ok 8)
-    ∷ line (Call.Join 0 0) (ok 9)
-    ∷ line (Call.Join 0 0) (ok 10)
-    ∷ line (Call.Join 0 1) (ok 11)
-    ∷ line (Call.Join 0 1) (ok 12)
-    ∷ line (Call.Join 0 1) (ok 13)
-    ∷ line (Call.Join 0 1) (ok 14)
-    ∷ line (Call.Join 0 0) (ok 15)
-    ∷ line (Call.Join 0 1) (ok 16)
-    ∷ line (Call.Join 0 1) (ok 17)
-    ∷ line (Call.Trade 0 1 1) (ok 0)
-    ∷ line (Call.Deposit 0 7_000) (ok 0)
-    ∷ line (Call.Declare 1 5_000) (ok 0)
-    ∷ line (Call.Trade 2 3 2) (ok 0)
-    ∷ line (Call.Deposit 2 14_000) (ok 0)
-    ∷ line (Call.Declare 3 5_000) (ok 0)
-    ∷ line (Call.Trade 4 5 3) (ok 0)
-    ∷ line (Call.Deposit 4 21_000) (ok 0)
-    ∷ line (Call.Trade 6 7 4) (ok 0)
-    ∷ line (Call.Deposit 6 28_000) (ok 0)
-    ∷ line (Call.Declare 7 5_000) (ok 0)
-    ∷ line (Call.Trade 8 9 5) (ok 0)
-    ∷ line (Call.Deposit 8 35_000) (ok 0)
-    ∷ line (Call.Declare 9 5_000) (ok 0)
-    ∷ line (Call.Trade 10 11 6) (ok 0)
-    ∷ line (Call.Deposit 10 42_000) (ok 0)
-    ∷ line (Call.Trade 12 13 7) (ok 0)
-    ∷ line (Call.Declare 13 5_000) (ok 0)
-    ∷ line (Call.Trade 14 15 8) (ok 0)
-    ∷ line (Call.Declare 15 5_000) (ok 0)
+    joined
+    ++ line (Call.Trade 0 1 1) (ok 0) ∷ line (Call.Deposit 0 7_000) (ok 0) ∷ line (Call.Declare 1 5_000) (ok 0)
+    ∷ line (Call.Trade 2 3 2) (ok 0) ∷ line (Call.Deposit 2 14_000) (ok 0) ∷ line (Call.Declare 3 5_000) (ok 0)
+    ∷ line (Call.Trade 4 5 3) (ok 0) ∷ line (Call.Deposit 4 21_000) (ok 0)
+    ∷ line (Call.Trade 6 7 4) (ok 0) ∷ line (Call.Deposit 6 28_000) (ok 0) ∷ line (Call.Declare 7 5_000) (ok 0)
+    ∷ line (Call.Trade 8 9 5) (ok 0) ∷ line (Call.Deposit 8 35_000) (ok 0) ∷ line (Call.Declare 9 5_000) (ok 0)
+    ∷ line (Call.Trade 10 11 6) (ok 0) ∷ line (Call.Deposit 10 42_000) (ok 0)
+    ∷ line (Call.Trade 12 13 7) (ok 0) ∷ line (Call.Declare 13 5_000) (ok 0)
+    ∷ line (Call.Trade 14 15 8) (ok 0) ∷ line (Call.Declare 15 5_000) (ok 0)
     ∷ line (Call.Trade 16 17 9) (ok 0)
-    ∷ line Call.Close (ok 9)
-    ∷ line (Call.Settle 0) (no 23)
-    ∷ line (Call.Day 900) (ok 1)
-    ∷ line (Call.Settle 0) (ok 0)
-    ∷ line (Call.Settle 1) (ok 0)
-    ∷ line (Call.Settle 2) (ok 0)
-    ∷ line (Call.Settle 3) (ok 0)
-    ∷ line (Call.Settle 4) (ok 0)
-    ∷ line (Call.Settle 5) (ok 0)
-    ∷ line (Call.Settle 6) (ok 0)
-    ∷ line (Call.Settle 7) (ok 0)
-    ∷ line (Call.Settle 8) (ok 0)
-    ∷ line (Call.Terminate 0 3) (no 8)
+    ∷ settled
+    ++ line (Call.Terminate 0 3) (no 8)
     ∷ line (Call.Terminate 9 0) (no 21)
     ∷ line (Call.Terminate 0 0) (ok 0)
     ∷ line (Call.Terminate 0 0) (no 22)
@@ -68,40 +29,11 @@ answers : play 1 7 33 1_000 script ≡ script
 unfolding play
 answers = refl
 
-ledger : ledger-after 1 7 33 1_000 script
-    ≡ account 0 (pos 4_690) 0 0
-    ∷ account 1 (pos 2_310) 0 0
-    ∷ account 2 (pos 15_400) 0 0
-    ∷ account 3 (owes 1_400) 0 0
-    ∷ account 4 (pos 27_930) 0 0
-    ∷ account 5 (owes 6_930) 0 0
-    ∷ account 6 (pos 25_200) 0 0
-    ∷ account 7 (pos 2_800) 0 0
-    ∷ account 8 (pos 31_500) 0 0
-    ∷ account 9 (owes 3_500) 0 0
-    ∷ account 10 (pos 37_800) 0 0
-    ∷ account 11 (owes 13_860) 0 0
-    ∷ account 12 (owes 16_170) 0 0
-    ∷ account 13 (pos 16_170) 0 0
-    ∷ account 14 (owes 18_480) 0 0
-    ∷ account 15 (owes 5_600) 0 0
-    ∷ account 16 (owes 20_790) 0 0
-    ∷ account 17 (owes 20_790) 0 0
-    ∷ matched 0 0 1 1 1_000 4 0
-    ∷ matched 1 2 3 2 1_000 4 0
-    ∷ matched 2 4 5 3 1_000 4 0
-    ∷ matched 3 6 7 4 1_000 4 0
-    ∷ matched 4 8 9 5 1_000 4 0
-    ∷ matched 5 10 11 6 1_000 4 0
-    ∷ matched 6 12 13 7 1_000 4 0
-    ∷ matched 7 14 15 8 1_000 4 0
-    ∷ matched 8 16 17 9 1_000 4 0
-    ∷ fund 90_720
-    ∷ []
+ledger : ledger-after 1 7 33 1_000 script ≡ account 0 (pos 4_690) 0 0 ∷ account 1 (pos 2_310) 0 0 ∷ punished ++ matched 0 0 1 1 1_000 4 0 ∷ ended
 unfolding ledger-after
 ledger = refl
 
 sums : sums-after 1 7 33 1_000 script
-    ≡ record { deposits = 147_000; withdrawals = 0; traded = 45; cash = pos 56_280; held = 0; in-matches = 45; long = 0; short = 0; entered = pos 4_690 ∷ pos 2_310 ∷ pos 15_400 ∷ owes 1_400 ∷ pos 27_930 ∷ owes 6_930 ∷ pos 25_200 ∷ pos 2_800 ∷ pos 31_500 ∷ owes 3_500 ∷ pos 37_800 ∷ owes 13_860 ∷ owes 16_170 ∷ pos 16_170 ∷ owes 18_480 ∷ owes 5_600 ∷ owes 20_790 ∷ owes 20_790 ∷ [] }
+    ≡ record { deposits = 147_000; withdrawals = 0; traded = 45; cash = pos 56_280; held = 0; in-matches = 45; long = 0; short = 0; entered = pos 4_690 ∷ pos 2_310 ∷ owed }
 unfolding sums-after
 sums = refl

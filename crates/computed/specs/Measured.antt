@@ -1,12 +1,13 @@
 -- Measure on both sides of its limits, refusal 24, amounts of 0 and above V, cash below zero, Invoice. Assumes nothing.
 use mathlib.Core.Path.{_≡_, refl}
-use mathlib.Core.List.{List, [], _∷_}
+use mathlib.Core.List.{List, [], _∷_, _++_}
 use lib.IntN.{pos}
 use Rattle.book.specs.declared.Call.{Call}
-use Rattle.computed.specs.Script.{Line, line, ok, no, play, account, matched, fund, ledger-after, sums-after}
+use Rattle.computed.specs.Script.{Line, line, ok, no, play, owes, account, matched, fund, ledger-after, sums-after}
 
-abbrev script : List Line
-script =
+-- up to a Measure whose amount is above V
+abbrev over : List Line
+over =
     line (Call.Join 0 1) (ok 0)
     ∷ line (Call.Join 0 1) (ok 1)
     ∷ line (Call.Join 0 1) (ok 2)
@@ -37,7 +38,25 @@ script =
     ∷ line (Call.Measure 0 19_499_999 5_300 2_504 150 4_200 3_000) (ok 0)
     ∷ line (Call.Measure 0 1 1 1 1 1 1) (no 22)
     ∷ line (Call.Measure 1 40_000_000_000 6_000 2_632 80 3_000 3_000) (ok 0)
-    ∷ line (Call.Measure 2 0 0 10_000 10_000 10_000 10_000) (ok 0)
+    ∷ []
+
+-- "Cash may go below zero by penalties and by Measure."
+below-zero : ledger-after 1 20_000 10 80_000 over
+    ≡ account 0 (owes 14_512_597) 0 0
+    ∷ account 1 (pos 1_158_939_480) 0 0
+    ∷ account 2 (pos 1_412_670_596) 0 0
+    ∷ matched 0 0 1 1 80_000 2 289_734_871
+    ∷ matched 1 0 2 1 80_000 2 353_167_650
+    ∷ matched 2 0 1 1 80_000 1 1_600_000_000
+    ∷ fund 0
+    ∷ []
+unfolding ledger-after
+below-zero = refl
+
+abbrev script : List Line
+script =
+    over
+    ++ line (Call.Measure 2 0 0 10_000 10_000 10_000 10_000) (ok 0)
     ∷ line (Call.Invoice 0) (ok 0)
     ∷ line (Call.Invoice 1) (ok 0)
     ∷ line (Call.Invoice 2) (ok 0)

@@ -1,24 +1,21 @@
 -- A session as it is written in these files: an opening, calls each with its answer, and the ledger after them. Assumes nothing.
-use mathlib.Core.Path.{_≡_}
-use mathlib.Core.Bool.{_&&_}
 use mathlib.Core.List.{List, [], _∷_, _++_, map}
 use Prim.Native.Nat.{ℕ, zero, suc, _+_}
 use lib.IntN.{ℤ, pos, negℤ}
-use Rattle.coal.specs.Coal.{half-up, percent-down, percent-half-up, settled-heat, price-by-heat, less-short-heat, less-sulphur, by-sulphur, by-volatiles, by-ash, coal-price, weight-within, by-moisture, coal-weight, amount}
+use Rattle.coal.specs.Coal as coal
 use Rattle.book.specs.declared.Book.{Book}
 use Rattle.book.specs.declared.Answer.{Answer}
-use Rattle.book.specs.declared.Outcome.{Outcome}
 use Rattle.book.specs.declared.Call.{Call}
 use Rattle.book.specs.Codes.{side-number, class-number, state-number, stage-number}
-use Rattle.book.specs.Counting.{iter, lowest, tally, sum, total, those}
-use Rattle.book.specs.Tables.{account-at, receipt-at, match-at, pay, charge, free-at, free-receipts, frozen-at, frozen-receipts}
+use Rattle.book.specs.Counting as counting
+use Rattle.book.specs.Tables as tables
 use Rattle.book.specs.Opening.{opening, next-day}
-use Rattle.book.specs.Accounts.{join, deposit, withdraw, trade}
-use Rattle.book.specs.Receipts.{lodge, strike}
-use Rattle.book.specs.Pairing.{freeze-turn, freeze, pair}
-use Rattle.book.specs.Offers.{declare, offer, retract, take-offer}
-use Rattle.book.specs.Closing.{walk, pair-all, insert-by-day, in-order, overseas-buyers, bonded-sellers, buyers, sellers, first-pass, equal-seller, second-turn, second-pass, third-pass, all-passes, lapse-turn, lapse-offers, close}
-use Rattle.book.specs.Settlement.{value, seller-fault, buyer-fault, penalty, punish, release-turn, free-again, pass-turn, pass-receipts, settle-receipts, settle-board, settle-ended, settled, settle, amount-due, measured, measure, invoice, terminated, terminate}
+use Rattle.book.specs.Accounts as accounts
+use Rattle.book.specs.Receipts as receipts
+use Rattle.book.specs.Pairing as pairing
+use Rattle.book.specs.Offers as offers
+use Rattle.book.specs.Closing as closing
+use Rattle.book.specs.Settlement as settlement
 use Rattle.book.specs.Calls.{step}
 use Rattle.book.specs.Entries.{penalty-entries, settle-entries, measure-entries, terminate-entries, entries}
 use Rattle.book.specs.Lists.{after, sum-accepted, amounts, deposits-accepted, withdrawals-accepted, units-traded, entry-sum, account-entries}
@@ -43,10 +40,14 @@ line c a = record { call = c; answer = a }
 abbrev pub calls : List Line → List Call
 calls ls = map (λ (l : Line). l .call) ls
 
+-- f of each of the n numbers from i on
+abbrev pub each : {A : Type 0} → ℕ → ℕ → (ℕ → A) → List A
+each zero i f = []
+each (suc n) i f = f i ∷ each n (i + 1) f
+
 -- the same call n times
 abbrev pub times : ℕ → Call → List Call
-times zero c = []
-times (suc n) c = c ∷ times n c
+times n c = each n 0 (λ i. c)
 
 -- the same calls n times
 abbrev pub rounds : ℕ → List Call → List Call
@@ -65,23 +66,17 @@ pub data Row : Type 0 where
 abbrev pub owes : ℕ → ℤ
 owes x = negℤ (pos x)
 
-abbrev pub rows : ℕ → ℕ → (ℕ → Row) → List Row → List Row
-rows zero i f l = l
-rows (suc n) i f l = f i ∷ rows n (i + 1) f l
-
 abbrev pub account-row : Book → ℕ → Row
-account-row b k = account k (account-at b k .cash) (side-number (account-at b k .side)) (account-at b k .units)
+account-row b k = account k (tables.account-at b k .cash) (side-number (tables.account-at b k .side)) (tables.account-at b k .units)
 
 abbrev pub receipt-row : Book → ℕ → Row
-receipt-row b i = receipt i (receipt-at b i .owner) (class-number (receipt-at b i .bonded)) (state-number (receipt-at b i .state))
+receipt-row b i = receipt i (tables.receipt-at b i .owner) (class-number (tables.receipt-at b i .bonded)) (state-number (tables.receipt-at b i .state))
 
 abbrev pub match-row : Book → ℕ → Row
-match-row b j = matched j (match-at b j .buyer) (match-at b j .seller) (match-at b j .units) (match-at b j .price) (stage-number (match-at b j .stage)) (match-at b j .held)
+match-row b j = matched j (tables.match-at b j .buyer) (tables.match-at b j .seller) (tables.match-at b j .units) (tables.match-at b j .price) (stage-number (tables.match-at b j .stage)) (tables.match-at b j .held)
 
 abbrev pub ledger-rows : Book → List Row
-ledger-rows b =
-    rows (b .«account_count») 0 (account-row b)
-    (rows (b .«receipt_count») 0 (receipt-row b) (rows (b .«match_count») 0 (match-row b) (fund (b .fund) ∷ [])))
+ledger-rows b = each (b .«account_count») 0 (account-row b) ++ each (b .«receipt_count») 0 (receipt-row b) ++ each (b .«match_count») 0 (match-row b) ++ fund (b .fund) ∷ []
 
 -- ---- a session
 
@@ -97,7 +92,18 @@ book-of kind t r p = opening kind t r p .book
 
 -- the answers of a script's calls from an opening
 unfoldable pub play : ℕ → ℕ → ℕ → ℕ → List Line → List Line
-unfolding half-up percent-down percent-half-up settled-heat price-by-heat less-short-heat less-sulphur by-sulphur by-volatiles by-ash coal-price weight-within by-moisture coal-weight amount iter lowest tally sum total those pay charge free-at free-receipts frozen-at frozen-receipts opening join deposit withdraw next-day trade lodge strike freeze-turn freeze pair declare offer retract take-offer walk pair-all insert-by-day in-order overseas-buyers bonded-sellers buyers sellers first-pass equal-seller second-turn second-pass third-pass all-passes lapse-turn lapse-offers close value seller-fault buyer-fault penalty punish release-turn free-again pass-turn pass-receipts settle-receipts settle-board settle-ended settled settle amount-due measured measure invoice terminated terminate step book-of
+unfolding
+    coal.half-up coal.percent-down coal.percent-half-up coal.settled-heat coal.price-by-heat coal.less-short-heat coal.less-sulphur coal.by-sulphur coal.by-volatiles
+    coal.by-ash coal.coal-price coal.weight-within coal.by-moisture coal.coal-weight coal.amount
+    counting.iter counting.lowest counting.tally counting.sum counting.total counting.those
+    tables.pay tables.charge tables.free-at tables.free-receipts tables.frozen-at tables.frozen-receipts opening next-day
+    accounts.join accounts.deposit accounts.withdraw accounts.trade receipts.lodge receipts.strike pairing.freeze-turn pairing.freeze pairing.pair
+    offers.declare offers.offer offers.retract offers.take-offer
+    closing.walk closing.pair-all closing.insert-by-day closing.in-order closing.overseas-buyers closing.bonded-sellers closing.buyers closing.sellers closing.first-pass
+    closing.equal-seller closing.second-turn closing.second-pass closing.third-pass closing.all-passes closing.lapse-turn closing.lapse-offers closing.close
+    settlement.value settlement.seller-fault settlement.buyer-fault settlement.penalty settlement.punish settlement.release-turn settlement.free-again
+    settlement.pass-turn settlement.pass-receipts settlement.settle-receipts settlement.settle-board settlement.settle-ended settlement.settled settlement.settle
+    settlement.amount-due settlement.measured settlement.measure settlement.invoice settlement.terminated settlement.terminate step book-of
 play kind t r p ls = answered (book-of kind t r p) (calls ls)
 
 -- the answer to one call after a list of calls from an opening
@@ -124,17 +130,13 @@ pub record Sums : Type 0 where
   -- each account's entries, by number
   pub entered : List ℤ
 
-abbrev pub entered-by : ℕ → ℕ → Book → List Call → List ℤ
-entered-by zero i b cs = []
-entered-by (suc n) i b cs = account-entries i b cs ∷ entered-by n (i + 1) b cs
-
 unfoldable pub sums-after : ℕ → ℕ → ℕ → ℕ → List Line → Sums
 unfolding play after sum-accepted amounts penalty-entries settle-entries measure-entries terminate-entries entries entry-sum account-entries total-cash total-held units-in-matches units-long units-short
 sums-after kind t r p ls =
     let b = book-of kind t r p in
     let cs = calls ls in
     let e = after b cs in
-    record { deposits = deposits-accepted b cs; withdrawals = withdrawals-accepted b cs; traded = units-traded b cs; cash = total-cash e; held = total-held e; in-matches = units-in-matches e; long = units-long e; short = units-short e; entered = entered-by (e .«account_count») 0 b cs }
+    record { deposits = deposits-accepted b cs; withdrawals = withdrawals-accepted b cs; traded = units-traded b cs; cash = total-cash e; held = total-held e; in-matches = units-in-matches e; long = units-long e; short = units-short e; entered = each (e .«account_count») 0 (λ i. account-entries i b cs) }
 
 -- of a Close after a script: the overseas units open, the bonded units offered, what the first pass gave out, and what it gave each account
 pub record Given : Type 0 where
@@ -143,13 +145,9 @@ pub record Given : Type 0 where
   pub out : ℕ
   pub to-each : List ℕ
 
-abbrev pub gave-each : ℕ → ℕ → Book → Book → List ℕ
-gave-each zero i b e = []
-gave-each (suc n) i b e = gave b e i ∷ gave-each n (i + 1) b e
-
 unfoldable pub given-by-close : ℕ → ℕ → ℕ → ℕ → List Line → Given
 unfolding play after gave gave-out overseas-units-open bonded-units-offered
 given-by-close kind t r p ls =
     let b = after (book-of kind t r p) (calls ls) in
     let e = step b Call.Close .book in
-    record { wanted = overseas-units-open b; offered = bonded-units-offered b; out = gave-out b e; to-each = gave-each (b .«account_count») 0 b e }
+    record { wanted = overseas-units-open b; offered = bonded-units-offered b; out = gave-out b e; to-each = each (b .«account_count») 0 (gave b e) }

@@ -7,7 +7,6 @@ use lib.Dec.{leb, ltb, eqb}
 use borrow.Author.Tests.{le-ltb, lt-ltb, le-leb, lt-leb, eq-eqb, ne-eqb}
 use Rattle.book.specs.declared.Book.{Book}
 use Rattle.book.specs.declared.Outcome.{Outcome}
-use Rattle.coal.specs.Choice.{pick}
 use Rattle.book.specs.Answers.{refuse, refuse-if}
 
 -- the answer of a function that promises a test is what the test gives
@@ -61,10 +60,3 @@ module _ (n : ℕ) (b : Book) (r : Outcome) where
     past-eqb x y h e = past (eqb x y) (ne-eqb _ _ h) e
 
 pub ruleset chain = (stop-leb, stop-ltb, stop-eqb, past-leb, past-ltb, past-eqb, stop, past, stop-told, past-told, stop-not, past-not, stop-ltb-told, past-ltb-told)
-
--- a choice by a test that is known
-pub pick-true : {A : Type 0} (t : Bool) (x y z : A) → t ≡ true → z ≡ x → z ≡ pick t x y
-pick-true t x y z h e = rw h e
-
-pub pick-false : {A : Type 0} (t : Bool) (x y z : A) → t ≡ false → z ≡ y → z ≡ pick t x y
-pick-false t x y z h e = rw h e

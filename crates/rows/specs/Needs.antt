@@ -34,9 +34,6 @@ module _ (b : Book) (r : Reached b) where
   pub cash-small : (k : ℕ) → natAbs (account-at b k .cash) ≤ 2_000_000_000_000_000_000
   cash-small k = omega (arith, s .cash-few k)
 
-  pub fund-small : b .fund ≤ 1_000_000_000_000_000_000
-  fund-small = omega (arith, s .fund-few)
-
   pub accounts-few : b .«account_count» ≤ 32
   accounts-few = s .tables .core .accounts .few
 
@@ -46,7 +43,7 @@ module _ (b : Book) (r : Reached b) where
   pub matches-few : b .«match_count» ≤ 126
   matches-few = s .tables .matches-few
 
-  -- a row that is there lies within its table, and so does its place in bytes
+  -- a row that is there lies within its table, and its place in bytes fits a word
   pub account-there : (k : ℕ) → k < b .«account_count» → k < 32
   account-there k h = omega (arith, accounts-few)
 
@@ -80,4 +77,4 @@ module _ (b : Book) (r : Reached b) where
   pub match-price-small : (j : ℕ) → j < b .«match_count» → match-at b j .price ≤ 1_000_000
   match-price-small j h = s .tables .core .matches .rows j h .price-high
 
-pub ruleset calls = (account-there, account-place, receipt-there, receipt-place, match-there, match-place, buyer-there, seller-there, held-small, match-units-small, match-price-small, tonnes-small, rate-small, price-small, day-small, deposits-fit, cash-small, fund-small, accounts-few, receipts-few, matches-few, le-ltb, lt-ltb, le-leb, lt-leb, eq-eqb, ne-eqb, needs)
+pub ruleset calls = (account-there, account-place, receipt-there, receipt-place, match-there, match-place, buyer-there, seller-there, held-small, match-units-small, match-price-small, tonnes-small, rate-small, price-small, day-small, deposits-fit, cash-small, accounts-few, receipts-few, matches-few, le-ltb, lt-ltb, le-leb, lt-leb, eq-eqb, ne-eqb, needs)

@@ -1,6 +1,5 @@
 -- A session line by line: what one line adds to the output, to the book and to the room that is used. Assumes nothing.
-use mathlib.Core.Path.{_≡_, refl, ap, sym, _∙_}
-use mathlib.Core.Bool.{Bool, true, false}
+use mathlib.Core.Path.{_≡_, refl, ap, _∙_}
 use mathlib.Core.List.{List, [], _∷_, _++_, append-assoc}
 use Prim.Native.Nat.{ℕ, _+_, _-_, _*_, _≤_, _<_}
 use native.Mathlib.Omega.{arith}
@@ -10,6 +9,7 @@ use Rattle.book.specs.declared.Book.{Book}
 use Rattle.book.specs.declared.Outcome.{Outcome}
 use Rattle.book.specs.declared.Call.{Call}
 use Rattle.book.specs.Lists.{Reached, called, after}
+use Rattle.book.specs.laws.Counting.{by-pick}
 use Rattle.text.specs.declared.lines.Line.{Line}
 use Rattle.text.specs.Numbers.{is-digit, numbers, numbers-on}
 use Rattle.text.specs.Lines.{lines, line-length, line-of, call-of}
@@ -20,7 +20,7 @@ use Rattle.text.proofs.Printing.{put-then}
 use Rattle.session.specs.Session.{reply, answers, call-then, calls-of, told}
 
 -- a reply leaves a reached book
-pub reply-reached : (b : Book) (l : Line) → Reached b → Reached (reply b l .book)
+reply-reached : (b : Book) (l : Line) → Reached b → Reached (reply b l .book)
 reply-reached b (Line.Run c) h = called c h
 reply-reached b Line.Bad h = h
 
@@ -31,27 +31,19 @@ after-line b (Line.Run c) cs = refl
 after-line b Line.Bad cs = refl
 
 -- one line's answer, then what the others print
-pub told-more : (b : Book) (l : List ℕ) (ls : List (List ℕ)) → told b (l ∷ ls) ≡ answer-line (reply b (line-of l) .answer) ++ told (reply b (line-of l) .book) ls
+told-more : (b : Book) (l : List ℕ) (ls : List (List ℕ)) → told b (l ∷ ls) ≡ answer-line (reply b (line-of l) .answer) ++ told (reply b (line-of l) .book) ls
 unfolding told answers calls-of
 told-more b l ls = rw (append-assoc, after-line)
-
-pub told-done : (b : Book) → told b [] ≡ ledger b
-unfolding told answers calls-of after
-told-done b = refl
 
 -- ---- the room
 
 -- a line of one byte is bad
 single-bad : (x : ℕ) → line-of (x ∷ []) ≡ Line.Bad
 unfolding line-of numbers numbers-on call-of
-single-bad x = go (is-digit x) refl
-  where
-    go : (t : Bool) → is-digit x ≡ t → line-of (x ∷ []) ≡ Line.Bad
-    go true e = rw e
-    go false e = rw e
+single-bad x = by-pick (λ (ns : List ℕ). call-of ns ≡ Line.Bad) (is-digit x) (λ _. refl) (λ _. refl)
 
 -- an answer of at most 24 bytes has at most 12 for each byte of its line
-pub reply-short : (b : Book) (l : List ℕ) → 1 ≤ length l → length (answer-line (reply b (line-of l) .answer)) ≤ 24 → length (answer-line (reply b (line-of l) .answer)) ≤ 12 * length l
+reply-short : (b : Book) (l : List ℕ) → 1 ≤ length l → length (answer-line (reply b (line-of l) .answer)) ≤ 24 → length (answer-line (reply b (line-of l) .answer)) ≤ 12 * length l
 unfolding spaced digits last-digits
 reply-short b [] h k = absurd (omega arith)
 reply-short b (x ∷ []) h k = rw (single-bad x) (omega arith)
@@ -91,5 +83,5 @@ module _ {s : List ℕ} {b : Book} {from at : ℕ} {out₀ out : List ℕ} {next
 
   -- the end: the ledger is all that is left to write
   pub ended : length s ≤ i → {z : List ℕ} {r : ℕ} → Put out z w r (ledger next) → Put out₀ z at r (told b (lines (drop from s)))
-  unfolding lines
-  ended h {z} {r} p = inv .on z r (rw (drop-of-length-le s h) (rw told-done p))
+  unfolding lines told answers calls-of after
+  ended h {z} {r} p = inv .on z r (rw (drop-of-length-le s h) p)

@@ -2,7 +2,7 @@
 use mathlib.Core.Path.{_≡_, refl, ap, sym, _∙_}
 use mathlib.Core.Bool.{Bool, true, false}
 use mathlib.Core.List.{List, [], _∷_, _++_, append-nil}
-use Prim.Native.Nat.{ℕ, _+_, _-_, _≤_, _<_}
+use Prim.Native.Nat.{ℕ, _+_, _≤_, _<_}
 use native.Mathlib.Nat.{sub-zero}
 use native.Mathlib.Omega.{arith}
 use lib.ListN.{length, take, drop, length-take}
@@ -12,8 +12,7 @@ use Rattle.book.specs.declared.Answer.{Answer}
 use Rattle.book.specs.declared.Outcome.{Outcome}
 use Rattle.book.specs.Answers.{is-accepted}
 use Rattle.book.specs.Opening.{opening}
-use Rattle.book.specs.Lists.{Reached}
-use Rattle.book.specs.Lists.{opened as reached-opening}
+use Rattle.book.specs.Lists.{Reached, opened as reached-opening}
 use Rattle.book.specs.laws.Demand.{demand-3}
 use Rattle.text.specs.declared.lines.OpeningLine.{OpeningLine}
 use Rattle.text.specs.Lines.{lines, line-length, opening-line-of}
@@ -26,13 +25,13 @@ use Rattle.session.specs.Session.{bad, told, opened, output-of, session,
 
 module _ (kind t r p : ℕ) (o : Outcome) (e : o ≡ opening kind t r p) where
   pub accepted-reached : {n : ℕ} → o .answer ≡ Answer.Accepted n → Reached (o .book)
-  accepted-reached a = rw e (reached-opening kind t r p (ap (λ (x : Outcome). is-accepted (x .answer)) (sym e) ∙ ap is-accepted a))
+  accepted-reached a = rw e (reached-opening kind t r p (rw (← e, a)))
 
   module _ (ls : List (List ℕ)) where
     -- line one's answer, and the rest where it is accepted
     is-opened : (is : Bool) → is-accepted (o .answer) ≡ is → opened (OpeningLine.Open kind t r p) ls ≡ answer-line (o .answer) ++ pick is (told (o .book) ls) []
     unfolding opened
-    is-opened is h = ap (λ (x : Outcome). answer-line (x .answer) ++ pick (is-accepted (x .answer)) (told (x .book) ls) []) (sym e) ∙ ap (λ (t : Bool). answer-line (o .answer) ++ pick t (told (o .book) ls) []) h
+    is-opened is h = rw (← e, h)
 
     pub accepted-put : {n : ℕ} → o .answer ≡ Answer.Accepted n → {x y z : List ℕ} {v w : ℕ} → Put x y 0 v (answer-line (o .answer)) → Put y z v w (told (o .book) ls) → Put x z 0 w (opened (OpeningLine.Open kind t r p) ls)
     accepted-put a f g = rw (is-opened true (ap is-accepted a)) (put-then f g)
@@ -42,21 +41,15 @@ module _ (kind t r p : ℕ) (o : Outcome) (e : o ≡ opening kind t r p) where
 
 -- ---- the whole
 
-empty : session [] ≡ answer-line bad
+pub nothing : (s : List ℕ) → length s ≡ 0 → session s ≡ answer-line bad
 unfolding session output-of lines
-empty = refl
+nothing [] h = refl
+nothing (x ∷ s) h = absurd (omega arith)
 
 module _ (s : List ℕ) where
   pub too-long : 65_536 < length s → session s ≡ answer-line bad
   unfolding session
   too-long h = rw (lt-ltb _ _ h)
-
-  pub nothing : length s ≡ 0 → session s ≡ answer-line bad
-  nothing h = none s h
-    where
-      none : (l : List ℕ) → length l ≡ 0 → session l ≡ answer-line bad
-      none [] e = empty
-      none (x ∷ l) e = absurd (omega arith)
 
   -- line one, and the lines after it
   pub from-first : length s ≤ 65_536 → 0 < length s → (e : ℕ) → e ≡ 0 + line-length (drop 0 s) → (l : OpeningLine) → l ≡ opening-line-of (take e s) → session s ≡ opened l (lines (drop e s))

@@ -36,6 +36,7 @@ fn run(book: Book, s: &[u8], from: usize, out: &mut [u8], at: usize) -> usize
             w = text::put_answer(out, w, Answer::Refused(26));
             continue;
         };
+        // Each call's outcome takes the place of the last one.
         match call {
             Call::Join { residence, fitness } => o = accounts::join(o.book, residence, fitness),
             Call::Deposit { account, amount } => o = accounts::deposit(o.book, account, amount),

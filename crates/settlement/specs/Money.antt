@@ -136,7 +136,7 @@ both-fined b k i x y = rw (add-assoc (b .fund) x y)
 
 -- ---- a match and what it is worth
 
--- the parties of a match are in the table, and it is worth v
+-- the parties of a match are numbers of rows, and it is worth v
 pub record Deal (b : Book) (m : Match) (v : ℕ) : Type 0 where
   pub buyer-there : m .buyer < 32
   pub seller-there : m .seller < 32
@@ -146,7 +146,7 @@ pub record Deal (b : Book) (m : Match) (v : ℕ) : Type 0 where
 -- a payment changes nothing of that
 pub deal-paid : (b f : Book) (k x : ℕ) (m : Match) (v : ℕ) → f ≡ pay b k x → Deal b m v → Deal f m v
 unfolding value pay
-deal-paid b f k x m v e d = rw e (record { buyer-there = d .buyer-there; seller-there = d .seller-there; worth = d .worth; small = d .small })
+deal-paid b f k x m v e d = rw e (omega arith)
 
 -- what settling match j of a book asks for, m its row and v its worth
 pub record Due (b : Book) (j : ℕ) (m : Match) (v : ℕ) : Type 0 where

@@ -1,91 +1,53 @@
 -- The numbers of a line as a call, or as the opening, by how many they are. Assumes nothing.
-use Prim.Native.Nat.{ℕ, suc, _≤_, _<_}
+use Prim.Native.Nat.{ℕ, zero, suc, _≤_, _<_}
 use native.Mathlib.Omega.{arith}
-use mathlib.Core.Path.{_≡_, refl, _∙_, sym}
-use mathlib.Core.Bool.{Bool}
-use mathlib.Core.List.{List, [], _∷_, _++_}
-use lib.ListN.{length, getD, take}
-use lib.Seq.{take-suc, length-take-le}
+use mathlib.Core.Path.{_≡_}
+use mathlib.Core.List.{List, [], _∷_}
 use lib.Dec.{eqb}
+use lib.ListN.{length, getD, take}
+use lib.Seq.{ext-getD}
 use Rattle.coal.specs.Choice.{pick}
 use Rattle.book.specs.declared.Call.{Call}
 use Rattle.text.specs.declared.lines.Line.{Line}
 use Rattle.text.specs.declared.lines.OpeningLine.{OpeningLine}
 use Rattle.text.specs.Lines.{call-of, opening-of, one-argument, two-arguments}
 
--- the laws of a list of numbers that is as long as no call's, and as the opening is not
-no-call : (l : List ℕ) → (length l ≡ 1 → ⊥) → (length l ≡ 2 → ⊥) → (length l ≡ 3 → ⊥) → (length l ≡ 4 → ⊥) → (length l ≡ 8 → ⊥) → call-of l ≡ Line.Bad
-unfolding call-of
-no-call [] a b c d e = refl
-no-call (_ ∷ []) a b c d e = absurd (a refl)
-no-call (_ ∷ _ ∷ []) a b c d e = absurd (b refl)
-no-call (_ ∷ _ ∷ _ ∷ []) a b c d e = absurd (c refl)
-no-call (_ ∷ _ ∷ _ ∷ _ ∷ []) a b c d e = absurd (d refl)
-no-call (_ ∷ _ ∷ _ ∷ _ ∷ _ ∷ []) a b c d e = refl
-no-call (_ ∷ _ ∷ _ ∷ _ ∷ _ ∷ _ ∷ []) a b c d e = refl
-no-call (_ ∷ _ ∷ _ ∷ _ ∷ _ ∷ _ ∷ _ ∷ []) a b c d e = refl
-no-call (_ ∷ _ ∷ _ ∷ _ ∷ _ ∷ _ ∷ _ ∷ _ ∷ []) a b c d e = absurd (e refl)
-no-call (_ ∷ _ ∷ _ ∷ _ ∷ _ ∷ _ ∷ _ ∷ _ ∷ _ ∷ l) a b c d e = refl
+-- what holds of each number below m
+abbrev Each : ℕ → (ℕ → Type 0) → Type 0
+Each zero P = Unit {0}
+Each (suc m) P = P 0 × Each m (λ n. P (suc n))
 
-no-opening : (l : List ℕ) → (length l ≡ 5 → ⊥) → opening-of l ≡ OpeningLine.Bad
-unfolding opening-of
-no-opening [] h = refl
-no-opening (_ ∷ []) h = refl
-no-opening (_ ∷ _ ∷ []) h = refl
-no-opening (_ ∷ _ ∷ _ ∷ []) h = refl
-no-opening (_ ∷ _ ∷ _ ∷ _ ∷ []) h = refl
-no-opening (_ ∷ _ ∷ _ ∷ _ ∷ _ ∷ []) h = absurd (h refl)
-no-opening (_ ∷ _ ∷ _ ∷ _ ∷ _ ∷ _ ∷ l) h = refl
+each-below : (m : ℕ) (P : ℕ → Type 0) → Each m P → (n : ℕ) → n < m → P n
+each-below zero P a n h = absurd (omega arith)
+each-below (suc m) P a zero h = a .0
+each-below (suc m) P a (suc n) h = each-below m (λ k. P (suc k)) (a .1) n (omega arith)
 
--- the first n of an array of eight
-module _ (l : List ℕ) (h : length l ≡ 8) where
-  next : (n : ℕ) {x : List ℕ} → n < 8 → take n l ≡ x → take (suc n) l ≡ x ++ (getD l n 0 ∷ [])
-  next n k e = take-suc l n 0 (omega arith) ∙ rw e
+-- the elements of a list of eight
+eight : List ℕ → List ℕ
+eight l = getD l 0 0 ∷ getD l 1 0 ∷ getD l 2 0 ∷ getD l 3 0 ∷ getD l 4 0 ∷ getD l 5 0 ∷ getD l 6 0 ∷ getD l 7 0 ∷ []
 
-  first : take 1 l ≡ getD l 0 0 ∷ []
-  first = next 0 (omega arith) refl
+is-eight : (l : List ℕ) → length l ≡ 8 → l ≡ eight l
+unfolding eight
+is-eight l h = ext-getD 0 l (eight l) h (λ i k. each-below 8 (λ (n : ℕ). getD l n 0 ≡ getD (eight l) n 0) (search) i (omega arith))
 
-  second : take 2 l ≡ getD l 0 0 ∷ getD l 1 0 ∷ []
-  second = next 1 (omega arith) first
+-- the call, or the opening, that the first n of a list's numbers are
+abbrev pub call-by : List ℕ → ℕ → Line
+call-by l n =
+    pick (eqb n 1) (pick (eqb (getD l 0 0) 12) (Line.Run Call.Close) Line.Bad)
+    (pick (eqb n 2) (one-argument (getD l 0 0) (getD l 1 0))
+    (pick (eqb n 3) (two-arguments (getD l 0 0) (getD l 1 0) (getD l 2 0))
+    (pick (eqb n 4) (pick (eqb (getD l 0 0) 4) (Line.Run (Call.Trade (getD l 1 0) (getD l 2 0) (getD l 3 0))) Line.Bad)
+    (pick (eqb n 8) (pick (eqb (getD l 0 0) 14) (Line.Run (Call.Measure (getD l 1 0) (getD l 2 0) (getD l 3 0) (getD l 4 0) (getD l 5 0) (getD l 6 0) (getD l 7 0))) Line.Bad)
+    Line.Bad))))
 
-  third : take 3 l ≡ getD l 0 0 ∷ getD l 1 0 ∷ getD l 2 0 ∷ []
-  third = next 2 (omega arith) second
+abbrev pub opening-by : List ℕ → ℕ → OpeningLine
+opening-by l n = pick (eqb n 5) (pick (eqb (getD l 0 0) 0) (OpeningLine.Open (getD l 1 0) (getD l 2 0) (getD l 3 0) (getD l 4 0)) OpeningLine.Bad) OpeningLine.Bad
 
-  fourth : take 4 l ≡ getD l 0 0 ∷ getD l 1 0 ∷ getD l 2 0 ∷ getD l 3 0 ∷ []
-  fourth = next 3 (omega arith) third
+module _ (l : List ℕ) (n : ℕ) (h : length l ≡ 8) (k : n ≤ 8) where
+  pub call-counted : call-of (take n l) ≡ call-by l n
+  unfolding call-of eight
+  call-counted = rw (is-eight l h) (each-below 9 (λ (m : ℕ). call-of (take m (eight l)) ≡ call-by (eight l) m) (search) n (omega arith))
 
-  module _ (n : ℕ) where
-    pub call-none : n ≡ 1 → (t : Bool) → eqb (getD l 0 0) 12 ≡ t → pick t (Line.Run Call.Close) Line.Bad ≡ call-of (take n l)
-    unfolding call-of
-    call-none e t f = rw (← f, e, first)
-
-    pub call-one : n ≡ 2 → one-argument (getD l 0 0) (getD l 1 0) ≡ call-of (take n l)
-    unfolding call-of
-    call-one e = rw (e, second)
-
-    pub call-two : n ≡ 3 → two-arguments (getD l 0 0) (getD l 1 0) (getD l 2 0) ≡ call-of (take n l)
-    unfolding call-of
-    call-two e = rw (e, third)
-
-    pub call-three : n ≡ 4 → (t : Bool) → eqb (getD l 0 0) 4 ≡ t → pick t (Line.Run (Call.Trade (getD l 1 0) (getD l 2 0) (getD l 3 0))) Line.Bad ≡ call-of (take n l)
-    unfolding call-of
-    call-three e t f = rw (← f, e, fourth)
-
-    pub call-seven : n ≡ 8 →
-        (t : Bool) → eqb (getD l 0 0) 14 ≡ t → pick t (Line.Run (Call.Measure (getD l 1 0) (getD l 2 0) (getD l 3 0) (getD l 4 0) (getD l 5 0) (getD l 6 0) (getD l 7 0))) Line.Bad ≡ call-of (take n l)
-    unfolding call-of
-    call-seven e t f = rw (← f, e, next 7 (omega arith) (next 6 (omega arith) (next 5 (omega arith) (next 4 (omega arith) fourth))))
-
-    pub opened : n ≡ 5 → (t : Bool) → eqb (getD l 0 0) 0 ≡ t → pick t (OpeningLine.Open (getD l 1 0) (getD l 2 0) (getD l 3 0) (getD l 4 0)) OpeningLine.Bad ≡ opening-of (take n l)
-    unfolding opening-of
-    opened e t f = rw (← f, e, next 4 (omega arith) fourth)
-
-    module _ (k : n ≤ 8) where
-      counted : length (take n l) ≡ n
-      counted = length-take-le n l (omega arith)
-
-      pub call-bad : (n ≡ 1 → ⊥) → (n ≡ 2 → ⊥) → (n ≡ 3 → ⊥) → (n ≡ 4 → ⊥) → (n ≡ 8 → ⊥) → Line.Bad ≡ call-of (take n l)
-      call-bad a b c d e = sym (no-call (take n l) (rw counted a) (rw counted b) (rw counted c) (rw counted d) (rw counted e))
-
-      pub opened-bad : (n ≡ 5 → ⊥) → OpeningLine.Bad ≡ opening-of (take n l)
-      opened-bad a = sym (no-opening (take n l) (rw counted a))
+  pub opening-counted : opening-of (take n l) ≡ opening-by l n
+  unfolding opening-of eight
+  opening-counted = rw (is-eight l h) (each-below 9 (λ (m : ℕ). opening-of (take m (eight l)) ≡ opening-by (eight l) m) (search) n (omega arith))

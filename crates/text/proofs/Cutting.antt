@@ -11,18 +11,19 @@ use lib.Seq.{drop-cons, drop-drop}
 use borrow.Author.Tests.{eq-eqb, ne-eqb}
 use Rattle.text.specs.Lines.{lines, line-length}
 
-module _ (s : List ℕ) (i : ℕ) where
-  pub length-out : length s ≤ i → line-length (drop i s) ≡ 0
+-- a line's end n, seen from place i of it
+module _ (s : List ℕ) (i n : ℕ) (on : n ≡ i + line-length (drop i s)) where
+  pub length-out : length s ≤ i → i ≡ n
   unfolding line-length
-  length-out h = rw (drop-of-length-le s h)
+  length-out h = let e : n ≡ i + 0 = rw (drop-of-length-le s h) at on in omega arith
 
-  pub length-stop : i < length s → getD s i 0 ≡ 10 → line-length (drop i s) ≡ 1
+  pub length-stop : i < length s → getD s i 0 ≡ 10 → i + 1 ≡ n
   unfolding line-length
-  length-stop h e = rw (drop-cons s i 0 h, eq-eqb (getD s i 0) 10 e)
+  length-stop h e = let k : n ≡ i + 1 = rw (drop-cons s i 0 h, eq-eqb (getD s i 0) 10 e) at on in omega arith
 
-  pub length-more : i < length s → (getD s i 0 ≡ 10 → ⊥) → line-length (drop i s) ≡ line-length (drop (i + 1) s) + 1
+  pub length-more : i < length s → (getD s i 0 ≡ 10 → ⊥) → n ≡ i + 1 + line-length (drop (i + 1) s)
   unfolding line-length
-  length-more h e = rw (drop-cons s i 0 h, ne-eqb (getD s i 0) 10 e, add-one i)
+  length-more h e = rw (add-one i) (omega (arith, rw (drop-cons s i 0 h, ne-eqb (getD s i 0) 10 e) at on))
 
 -- a text that is not empty: its first line has a byte at least and no more than the text, and the text is that line and the others
 pub record Cut (s : List ℕ) : Type 0 where
@@ -30,23 +31,17 @@ pub record Cut (s : List ℕ) : Type 0 where
   pub within : line-length s ≤ length s
   pub first : lines s ≡ take (line-length s) s ∷ lines (drop (line-length s) s)
 
-cut : (b : ℕ) (s : List ℕ) → Cut (b ∷ s)
+cut : (b : ℕ) (s : List ℕ) (t : Bool) → eqb b 10 ≡ t → Cut (b ∷ s)
 unfolding lines line-length
-cut b [] = go (eqb b 10) refl
-  where
-    go : (t : Bool) → eqb b 10 ≡ t → Cut (b ∷ [])
-    go true e = record { some = rw e (omega arith); within = rw e (omega arith); first = rw e }
-    go false e = record { some = rw e (omega arith); within = rw e (omega arith); first = rw e }
-cut b (d ∷ s) = go (eqb b 10) refl (cut d s)
-  where
-    go : (t : Bool) → eqb b 10 ≡ t → Cut (d ∷ s) → Cut (b ∷ d ∷ s)
-    go true e c = record { some = rw e (omega arith); within = rw e (omega arith); first = rw e }
-    go false e c =
-        record { some = rw e (omega arith); within = rw e (omega (arith, c .within)); first = rw (e, c .first, add-one (line-length (d ∷ s))) }
+cut b [] true e = record { some = rw e (omega arith); within = rw e (omega arith); first = rw e }
+cut b [] false e = record { some = rw e (omega arith); within = rw e (omega arith); first = rw e }
+cut b (d ∷ s) true e = record { some = rw e (omega arith); within = rw e (omega arith); first = rw e }
+cut b (d ∷ s) false e = let c = cut d s (eqb d 10) refl in
+    record { some = rw e (omega arith); within = rw e (omega (arith, c .within)); first = rw (e, c .first, add-one (line-length (d ∷ s))) }
 
 pub cut-some : (s : List ℕ) → 0 < length s → Cut s
 cut-some [] h = absurd (omega arith)
-cut-some (b ∷ s) h = cut b s
+cut-some (b ∷ s) h = cut b s (eqb b 10) refl
 
 -- the line that starts at a place of the text, given the place after it
 module _ (s : List ℕ) (at e : ℕ) (h : at < length s) (p : e ≡ at + line-length (drop at s)) where

@@ -3,14 +3,14 @@ use Prim.Native.Nat.{ℕ, zero, suc, _+_, _*_, _^_, _/_, _%_, _≤_, _<_}
 use native.Mathlib.Omega.{arith}
 use native.Mathlib.Nat.{pow-suc}
 use native.Mathlib.Numerals.{add-one}
-use mathlib.Core.Logic.{_⊎_, inl, inr, ⊎-elim}
 use mathlib.Core.Path.{_≡_, refl, sym, _∙_}
-use mathlib.Core.Bool.{Bool, true, false}
 use mathlib.Core.List.{List, [], _∷_, _++_, append-assoc, append-nil}
 use lib.Dec.{ltb}
 use lib.ListN.{length, take, getD, length-append}
 use lib.Seq.{take-suc}
-use borrow.Author.Tests.{lt-ltb, le-ltb, ltb-true, ltb-false}
+use borrow.Author.Tests.{lt-ltb, le-ltb}
+use Rattle.coal.specs.Choice.{pick}
+use Rattle.book.specs.laws.Counting.{by-pick}
 use Rattle.text.specs.Print.{Put, last-digits, digits, spaced}
 use Rattle.text.specs.Ledger.{each}
 
@@ -44,61 +44,48 @@ last-same zero (suc m) n h l = simp (lt-ltb n 10 (omega arith))
 last-same (suc k) zero n h l = simp (lt-ltb n 10 (omega arith))
 last-same (suc k) (suc m) n h l = rw (last-same k m (n / 10) (omega arith) (omega arith))
 
-digits-small : (n : ℕ) → n < 10 → digits n ≡ (48 + n % 10) ∷ []
+digits-step : (n : ℕ) → digits n ≡ pick (ltb n 10) [] (digits (n / 10)) ++ ((48 + n % 10) ∷ [])
 unfolding digits last-digits
-digits-small zero h = refl
-digits-small (suc n) h = simp (lt-ltb (suc n) 10 h)
-
-digits-more : (n : ℕ) → 10 ≤ n → digits n ≡ digits (n / 10) ++ ((48 + n % 10) ∷ [])
-unfolding digits last-digits
-digits-more zero h = absurd (omega arith)
-digits-more (suc n) h = simp (le-ltb (suc n) 10 h) (rw (last-same n (suc n / 10) (suc n / 10) (omega arith) (omega arith)))
-
-below-or : (m n : ℕ) → (m < n) ⊎ (n ≤ m)
-below-or m n = go (ltb m n) refl
-  where
-    go : (t : Bool) → ltb m n ≡ t → (m < n) ⊎ (n ≤ m)
-    go true e = inl (ltb-true m n e)
-    go false e = inr (ltb-false m n e)
+digits-step zero = refl
+digits-step (suc n) = rw (last-same n (suc n / 10) (suc n / 10) (omega arith) (omega arith))
 
 tenth : (n m : ℕ) → n < m * 10 → n / 10 < m
 tenth n m h = omega arith
 
 -- a number below 10 ^ (k + 1) has at most k + 1 digits
 digits-short : (k n : ℕ) → n < 10 ^ suc k → length (digits n) ≤ suc k
-digits-short zero n h = rw (digits-small n h) (omega arith)
+digits-short zero n h = rw (digits-step n, lt-ltb n 10 h) (omega arith)
 digits-short (suc k) n h =
-    ⊎-elim (λ g. rw (digits-small n g) (omega arith))
-    (λ g. rw (digits-more n g, length-append) (omega (arith, digits-short k (n / 10) (tenth n (10 ^ suc k) (rw (pow-suc 10 (suc k)) at h)))))
-    (below-or n 10)
+    rw (digits-step n, length-append)
+    (by-pick (λ (l : List ℕ). length l + 1 ≤ suc (suc k)) (ltb n 10) (λ _. omega arith)
+    (λ _. omega (arith, digits-short k (n / 10) (tenth n (10 ^ suc k) (rw (pow-suc 10 (suc k)) at h)))))
 
 pub digits-64 : (n : ℕ) → n < 2 ^ 64 → length (digits n) ≤ 20
 digits-64 n h = digits-short 19 n (omega arith)
 
 pub digits-one : (n : ℕ) → n < 10 → length (digits n) ≡ 1
-digits-one n g = rw (digits-small n g)
+digits-one n g = rw (digits-step n, lt-ltb n 10 g)
 
 pub digits-longer : (n : ℕ) → 10 ≤ n → length (digits n) ≡ length (digits (n / 10)) + 1
-digits-longer n g = rw (digits-more n g, length-append)
+digits-longer n g = rw (digits-step n, le-ltb n 10 g, length-append)
 
 pub put-small : {a b : List ℕ} {i j d n : ℕ} → n < 10 → d ≡ 48 + n % 10 → Put a b i j (d ∷ []) → Put a b i j (digits n)
-put-small {n = n} g e p = rw (digits-small n g, ← e) p
+put-small {n = n} g e p = rw (digits-step n, lt-ltb n 10 g, ← e) p
 
 pub put-more : {a b c : List ℕ} {i j k d n : ℕ} → 10 ≤ n → d ≡ 48 + n % 10 → Put a b i j (digits (n / 10)) → Put b c j k (d ∷ []) → Put a c i k (digits n)
-put-more {n = n} g e p q = rw (digits-more n g, ← e) (put-then p q)
+put-more {n = n} g e p q = rw (digits-step n, le-ltb n 10 g, ← e) (put-then p q)
 
 -- ---- numbers with a space before each
 
-spaced-append : (ms ns : List ℕ) → spaced (ms ++ ns) ≡ spaced ms ++ spaced ns
+spaced-last : (ns : List ℕ) (n : ℕ) → spaced (ns ++ (n ∷ [])) ≡ spaced ns ++ (32 ∷ digits n)
 unfolding spaced
-spaced-append [] ns = refl
-spaced-append (m ∷ ms) ns = rw (spaced-append ms ns) (sym (append-assoc (32 ∷ digits m) (spaced ms) (spaced ns)))
+spaced-last [] n = append-nil (32 ∷ digits n)
+spaced-last (m ∷ ns) n = rw (spaced-last ns n) (sym (append-assoc (32 ∷ digits m) (spaced ns) (32 ∷ digits n)))
 
 -- one number more
 pub spaced-more : {a b c : List ℕ} {i j k : ℕ} (ns : List ℕ) (n : ℕ) → n < length ns → Put a b i j (spaced (take n ns)) →
     Put b c j k (32 ∷ digits (getD ns n 0)) → Put a c i k (spaced (take (n + 1) ns))
-unfolding spaced
-spaced-more ns n h p q = rw (add-one n, take-suc ns n 0 h, spaced-append (take n ns) (getD ns n 0 ∷ []), append-nil (32 ∷ digits (getD ns n 0))) (put-then p q)
+spaced-more ns n h p q = rw (add-one n, take-suc ns n 0 h, spaced-last) (put-then p q)
 
 -- ---- the rows of a table
 

@@ -4,7 +4,7 @@ use native.Mathlib.Omega.{arith}
 use native.Mathlib.Nat.{zero-add}
 use native.Mathlib.Numerals.{add-one}
 use mathlib.Core.Path.{_≡_, refl, sym, ap, _∙_}
-use mathlib.Core.Bool.{true, false}
+use mathlib.Core.Bool.{true, false, true≢false}
 use mathlib.Core.List.{[], _∷_, _++_}
 use borrow.Author.Tests.{lt-ltb, ltb-true}
 use lib.Dec.{T}
@@ -69,6 +69,4 @@ pub not-below : (z : ℤ) → SFits w64 z → ltZ (kept z) (pos 0) ≡ false →
 not-below (pos n) f h = let g : n < 2 ^ 63 = f .sfits in
     let e = toZ-ofZ w64 (pos n) f in
     record { cast = rw e (tt, record { fits = omega arith }); text = rw e }
-not-below (negsuc n) f h =
-    let e : ltZ (negsuc n) (pos 0) ≡ false = sym (ap (λ (z : ℤ). ltZ z (pos 0)) (toZ-ofZ w64 (negsuc n) f)) ∙ h in
-    let z : _≡_ {A = ℕ} 0 1 = cc in absurd (omega arith)
+not-below (negsuc n) f h = absurd (true≢false (sym (ap (λ (z : ℤ). ltZ z (pos 0)) (toZ-ofZ w64 (negsuc n) f)) ∙ h))

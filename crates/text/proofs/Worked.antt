@@ -31,9 +31,8 @@ session-read : map line-of (lines (bytes "1 0 1\n1 1 1\n2 1 7000000\n4 1 0 2\n5 
 unfolding numbers-on numbers lines call-of line-of
 session-read = refl
 
--- a blank line, leading zeros, 19 digits, spaces, a sign, one argument too many and too few, no such call, no newline
-bad-read : map line-of (lines (bytes "\n012\n9 00\n9 1000000000000000000\n9  0\n9 0 \n 9 0\n9 -1\n12 0\n9\n17 0\n0 0 5 20 600000\n12")) ≡
-    Line.Bad ∷ Line.Bad ∷ Line.Bad ∷ Line.Bad ∷ Line.Bad ∷ Line.Bad ∷ Line.Bad ∷ Line.Bad ∷ Line.Bad ∷ Line.Bad ∷ Line.Bad ∷ Line.Bad ∷ Line.Bad ∷ []
+-- a blank line, leading zeros, 19 digits, spaces, a sign, one argument too many and too few, no such call, an opening as a later line, no newline
+bad-read : map line-of (lines (bytes "\n012\n9 00\n9 1000000000000000000\n9  0\n9 0 \n 9 0\n9 -1\n12 0\n9\n17 0\n0 0 5 20 600000\n12")) ≡ replicate 13 Line.Bad
 unfolding numbers-on numbers lines call-of line-of
 bad-read = refl
 

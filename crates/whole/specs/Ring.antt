@@ -1,4 +1,4 @@
--- `simp ring` decides an equation of sums and differences in ℤ: each side becomes one difference `p ⊖ n`, the two are
+-- `simp ring` proves equations of sums and differences over variables in ℤ: each side becomes one difference `p ⊖ n`, the two are
 -- compared crosswise, `p + m ≡ q + n`, and the sums are sorted. Assumes nothing.
 use mathlib.Core.Path.{_≡_, sym, ap, _∙_}
 use mathlib.Core.Logic.{_↔_}

@@ -1,15 +1,15 @@
 -- A whole number as a plus part less a minus part, so that `omega` proves what is linear in ℤ; magnitudes; and what 64 bit signed sums need.
 -- Assumes nothing.
-use mathlib.Core.Path.{_≡_, refl, ap, subst}
+use mathlib.Core.Path.{_≡_, refl, ap}
 use mathlib.Core.Bool.{Bool, true, false, cond, not}
 use Prim.Native.Nat.{ℕ, zero, suc, _+_, _-_, _≤_}
 use native.Mathlib.Omega.{arith}
 use lib.Dec.{T, ltb, ltb→lt, nltb→le}
 use lib.IntN.{ℤ, pos, negsuc, negℤ, natAbs, subℕ, _+ℤ_, _-ℤ_}
-use lib.Signed.{mag, ltZ, nonNeg}
-use borrow.Author.Tests.{ltb-true, ltb-false}
+use lib.Signed.{mag, ltZ}
+use borrow.Author.Tests.{ltb-false}
 use mir.Syntax.{w64}
-use mir.Val.{Fits, SFits, toZ}
+use mir.Val.{SFits, toZ}
 use mir.Facts.{toZ-pos}
 
 abbrev pub up : ℤ → ℕ
@@ -62,11 +62,6 @@ pub mag-le : (x : ℤ) → mag x ≤ up x + dn x
 mag-le (pos n) = omega arith
 mag-le (negsuc n) = omega arith
 
--- one of the two parts is none
-pub one-sided : (x : ℤ) → Prim.Native.Nat.min (up x) (dn x) ≡ 0
-one-sided (pos n) = omega arith
-one-sided (negsuc n) = omega arith
-
 -- two numbers are equal where their parts balance
 pub same : (x y : ℤ) → up x + dn y ≡ up y + dn x → x ≡ y
 same (pos a) (pos b) h = ap pos (omega arith)
@@ -100,7 +95,7 @@ below-false : (z : ℤ) (v : ℕ) → ltZ z (pos v) ≡ false → v + dn z ≤ u
 below-false (pos n) v e = omega (arith, ltb-false n v e)
 below-false (negsuc n) v e = let z : _≡_ {A = ℕ} 0 1 = cc in absurd (omega arith)
 
--- who is not below what they pay has less after it, and no debt
+-- who is not below what they pay: the magnitude does not grow
 pub natAbs-paid : (z : ℤ) (x : ℕ) → ltZ z (pos x) ≡ false → natAbs (z -ℤ pos x) ≤ natAbs z
 natAbs-paid z x e = omega (arith, below-false z x e, natAbs-is (z -ℤ pos x), natAbs-is z, up-add z (negℤ (pos x)), dn-add z (negℤ (pos x)), up-neg (pos x), dn-neg (pos x))
 
@@ -124,32 +119,12 @@ sum-fits z x h k = record { sfits = omega (arith, mag-le (z +ℤ pos x), up-add 
 pub less-fits : (z : ℤ) (x : ℕ) → natAbs z ≤ 2_000_000_000_000_000_000 → x ≤ 1_000_000_000_000_000 → SFits w64 (z -ℤ pos x)
 less-fits z x h k = record { sfits = omega (arith, mag-le (z -ℤ pos x), up-add z (negℤ (pos x)), dn-add z (negℤ (pos x)), up-neg (pos x), dn-neg (pos x), natAbs-is z) }
 
-pub sums-fit : (z y : ℤ) → natAbs z ≤ 2_000_000_000_000_000_000 → natAbs y ≤ 1_000_000_000_000_000 → SFits w64 (z +ℤ y)
-sums-fit z y h k = record { sfits = omega (arith, mag-le (z +ℤ y), up-add z y, dn-add z y, natAbs-is z, natAbs-is y) }
-
-pub neg-fits : (z : ℤ) → natAbs z ≤ 2_000_000_000_000_000_000 → SFits w64 (pos 0 -ℤ z)
-neg-fits z h = record { sfits = omega (arith, mag-le (pos 0 -ℤ z), up-add (pos 0) (negℤ z), dn-add (pos 0) (negℤ z), up-neg z, dn-neg z, natAbs-is z) }
-
 -- an unsigned number that is read as a signed one
 pub as-signed : (x : ℕ) → x ≤ 1_000_000_000_000_000_000 → toZ w64 x ≡ pos x
 as-signed x h = toZ-pos w64 (omega arith)
 
+-- the same by the bound that the sums ask for, as a search finds it
 pub amount-signed : (x : ℕ) → x ≤ 1_000_000_000_000_000 → toZ w64 x ≡ pos x
-amount-signed x h = toZ-pos w64 (omega arith)
+amount-signed x h = as-signed x (omega arith)
 
--- of a number below zero, and of another
-pub below-zero-out : (z : ℤ) → ltZ z (pos 0) ≡ true → T (nonNeg (pos 0 -ℤ z))
-below-zero-out (pos n) e = absurd (omega (arith, ltb-true n 0 e))
-below-zero-out (negsuc n) e = tt
-
-pub not-below-zero : (z : ℤ) → ltZ z (pos 0) ≡ false → T (nonNeg z)
-not-below-zero (pos n) e = tt
-not-below-zero (negsuc n) e = subst T e tt
-
-pub neg-natAbs : (z : ℤ) → natAbs (pos 0 -ℤ z) ≡ natAbs z
-neg-natAbs z = omega (arith, natAbs-is (pos 0 -ℤ z), natAbs-is z, up-add (pos 0) (negℤ z), dn-add (pos 0) (negℤ z), up-neg z, dn-neg z, one-sided z)
-
-pub natAbs-fits : (z : ℤ) → natAbs z ≤ 2_000_000_000_000_000_000 → Fits w64 (natAbs z)
-natAbs-fits z h = record { fits = omega arith }
-
-pub ruleset cash-needs = (sum-fits, sums-fit, less-fits, neg-fits, as-signed, amount-signed, below-zero-out, not-below-zero, neg-natAbs, natAbs-fits)
+pub ruleset cash-needs = (sum-fits, less-fits, as-signed, amount-signed)

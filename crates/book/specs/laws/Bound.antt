@@ -10,10 +10,7 @@ use lib.IntN.{ℤ, pos, natAbs}
 use lib.ListN.{getD, replicate}
 use Rattle.coal.specs.Choice.{pick}
 use Rattle.whole.specs.Whole.{natAbs-sum, natAbs-paid}
-use Rattle.book.specs.declared.Stage.{Stage}
-use Rattle.book.specs.declared.Account.{Account}
-use Rattle.book.specs.declared.Match.{Match}
-use Rattle.book.specs.declared.Book.{Book}
+use Rattle.book.specs.Types.{Stage, Account, Match, Book}
 use Rattle.book.specs.Codes.{stage-number}
 use Rattle.book.specs.Counting.{sum}
 use Rattle.book.specs.Rows.{blank-account, debited}

@@ -4,8 +4,7 @@ use native.Mathlib.Nat.{mul-le-mul}
 use native.Mathlib.Omega.{arith}
 use Rattle.coal.specs.Coal.{coal-price, coal-weight}
 use Rattle.coal.specs.Bounds.{coal-price-most, coal-weight-most, amount-most}
-use Rattle.book.specs.declared.Match.{Match}
-use Rattle.book.specs.declared.Book.{Book}
+use Rattle.book.specs.Types.{Match, Book}
 use Rattle.book.specs.Rows.{heat-value}
 use Rattle.book.specs.Settlement.{value, amount-due}
 

@@ -1,5 +1,5 @@
 -- The opening and the calls that neither pair nor settle keep the tables sound: one short lemma for each accepted call. Assumes nothing.
-use mathlib.Core.Path.{_≡_, refl, sym, subst}
+use mathlib.Core.Path.{_≡_, refl, sym}
 use mathlib.Core.Logic.{_≢_}
 use mathlib.Core.Bool.{Bool, false}
 use mathlib.Core.List.{[], _∷_}
@@ -9,12 +9,7 @@ use lib.Dec.{eqb}
 use lib.IntN.{pos, negℤ}
 use lib.ListN.{length, length-replicate}
 use lib.Seq.{getD-set-other}
-use Rattle.book.specs.declared.Side.{Side}
-use Rattle.book.specs.declared.Heat.{Heat}
-use Rattle.book.specs.declared.Offer.{Offer}
-use Rattle.book.specs.declared.ReceiptState.{ReceiptState}
-use Rattle.book.specs.declared.Account.{Account}
-use Rattle.book.specs.declared.Book.{Book}
+use Rattle.book.specs.Types.{Side, Heat, Offer, ReceiptState, Account, Book}
 use Rattle.book.specs.Rows.{blank-account, blank-receipt, blank-match, is-short, short-units, with-heat, with-offer, with-state, units-on}
 use Rattle.book.specs.Tables.{account-at, receipt-at, add-account, add-receipt, put-account, put-receipt, with-day, with-deposited, pay, charge}
 use Rattle.book.specs.Opening.{fresh, opening}
@@ -22,10 +17,10 @@ use Rattle.book.specs.Accounts.{new-account, add-units, traded}
 use Rattle.book.specs.Receipts.{new-receipt}
 use Rattle.book.specs.Offers.{end-offer}
 use Rattle.book.specs.Entries.{plus, minus}
-use Rattle.book.specs.laws.Counting.{by-pick, rows-add}
+use Rattle.book.specs.laws.Counting.{by-pick, rows-add, impossible}
 use Rattle.book.specs.laws.Answered.{MayJoin, MayDeposit, MayWithdraw, MayTrade, MayLodge, MayStrike, MayDeclare, MayOffer, MayRetract, MayDay, of-opening}
-use Rattle.book.specs.laws.Sound.{SoundAccount, SoundOffer, SoundTables}
-use Rattle.book.specs.laws.Tables.{accounts-add, account-still, no-offer, tables-put, matches-more, receipts-more, receipts-put, receipts-add, tables-receipts}
+use Rattle.book.specs.laws.Sound.{SoundAccount, SoundOffer, AccountTable, SoundTables}
+use Rattle.book.specs.laws.Tables.{accounts-add, account-placed, no-offer, tables-put, matches-more, receipts-more, receipts-put, receipts-add, tables-receipts}
 use Rattle.book.specs.laws.Posting.{Posted, posted-none, post, posted-accounts, posted-offers}
 
 -- ---- the opening
@@ -52,152 +47,103 @@ new-sound : (day residence fitness : ℕ) → SoundAccount day (new-account resi
 new-sound day residence fitness = record {
   few = omega arith;
   flat-none = λ h. refl;
-  long-some = λ h. absurd (let z : _≡_ {A = ℕ} 0 1 = cc in omega arith);
-  short-some = λ h. absurd (let z : _≡_ {A = ℕ} 0 1 = cc in omega arith);
+  long-some = λ h. impossible (cc);
+  short-some = λ h. impossible (cc);
   past = omega arith;
-  heat-low = λ x h. absurd (let z : _≡_ {A = ℕ} 0 1 = cc in omega arith);
-  heat-high = λ x h. absurd (let z : _≡_ {A = ℕ} 0 1 = cc in omega arith);
+  heat-low = λ x h. impossible (cc);
+  heat-high = λ x h. impossible (cc);
 }
 
 -- units added on a side
 on-sound : {day : ℕ} (a : Account) (s : Side) (u : ℕ) → s ≢ Side.Flat → 0 < u → a .units + u ≤ 1_000 → SoundAccount day a → SoundAccount day (units-on a s u day)
-on-sound {day} a s u n p h r = record {
-  few = h;
-  flat-none = λ e. absurd (n e);
-  long-some = λ e. omega arith;
-  short-some = λ e. omega arith;
-  past = by-pick (λ (x : ℕ). x ≤ day) (eqb (a .units) 0) (λ e. omega arith) (λ e. r .past);
-  heat-low = r .heat-low;
-  heat-high = r .heat-high;
-}
+on-sound {day} a s u n p h r = account-placed r h (λ e. absurd (n e)) (λ e. omega arith) (λ e. omega arith) (by-pick (λ (x : ℕ). x ≤ day) (eqb (a .units) 0) (λ e. omega arith) (λ e. r .past))
 
 -- on the long side: the account is not short, so it has no offer
 on-long-offer : (a : Account) (u day : ℕ) → is-short (a .side) ≡ false → SoundOffer a → SoundOffer (units-on a Side.Long u day)
 on-long-offer a u day e r = record {
   offered = λ x h. absurd (let z : short-units a ≡ 0 = rw e in omega (arith, r .offered x h, r .offered-some x h));
-  offered-some = λ x h. r .offered-some x h;
+  offered-some = r .offered-some;
 }
 
 on-short-offer : (a : Account) (u day : ℕ) → SoundOffer a → SoundOffer (units-on a Side.Short u day)
 on-short-offer a u day r = record {
   offered = λ x h. let s : short-units a ≤ a .units = by-pick (λ (y : ℕ). y ≤ a .units) (is-short (a .side)) (λ e. omega arith) (λ e. omega arith) in omega (arith, r .offered x h);
-  offered-some = λ x h. r .offered-some x h;
+  offered-some = r .offered-some;
 }
 
 heat-sound : {day : ℕ} (a : Account) (x : ℕ) → 4_300 ≤ x → x ≤ 10_000 → SoundAccount day a → SoundAccount day (with-heat a (Heat.Declared x))
-heat-sound a x h g r = record {
-  few = r .few;
-  flat-none = r .flat-none;
-  long-some = r .long-some;
-  short-some = r .short-some;
-  past = r .past;
-  heat-low = λ y e. let q : x ≡ y = cc in omega arith;
-  heat-high = λ y e. let q : x ≡ y = cc in omega arith;
-}
+heat-sound a x h g r =
+    let low : (y : ℕ) → Heat.Declared x ≡ Heat.Declared y → 4_300 ≤ y = λ y e. let q : x ≡ y = cc in omega arith in
+    let high : (y : ℕ) → Heat.Declared x ≡ Heat.Declared y → y ≤ 10_000 = λ y e. let q : x ≡ y = cc in omega arith in
+    search
 
-module _ (b : Book) (r : SoundTables b) where
+module _ {b : Book} (r : SoundTables b) where
   -- an account of the book has its cell
   pub cell : (k : ℕ) → k < b .«account_count» → k < length (b .accounts)
   cell k h = omega (arith, r .core .accounts .size, r .core .accounts .few)
 
-  pub join-tables : (residence fitness : ℕ) → MayJoin b residence fitness → SoundTables (add-account b (new-account residence fitness))
-  join-tables residence fitness g =
+  pub join-tables : {residence fitness : ℕ} → MayJoin b residence fitness → SoundTables (add-account b (new-account residence fitness))
+  join-tables {residence} {fitness} g =
       let a = new-account residence fitness in
-      record {
-        core = record {
-          terms = r .core .terms;
-          accounts = accounts-add a (g .space) (r .core .accounts) (new-sound (b .day) residence fitness);
-          matches = matches-more (omega arith) (omega arith) (r .core .matches);
-          receipts = receipts-more (omega arith) (r .core .receipts);
-        };
-        offers = rows-add SoundOffer (b .accounts) (b .«account_count») a blank-account (omega (arith, r .core .accounts .size, g .space)) (r .offers) (no-offer a refl);
-        matches-few = r .matches-few;
-        matches-open = r .matches-open;
-      }
+      let n = b .«account_count» in
+      let more = matches-more {n′ = n + 1} {day′ = b .day} (omega arith) (omega arith) (r .core .matches) in
+      let owners = receipts-more {n′ = n + 1} (omega arith) (r .core .receipts) in
+      let offers = rows-add SoundOffer (b .accounts) n a blank-account (omega (arith, r .core .accounts .size, g .space)) (r .offers) (no-offer a refl) in
+      search (accounts-add, new-sound)
 
-  pub deposit-posted : (k x : ℕ) → MayDeposit b k x → Posted (b .accounts) (pay (with-deposited b (b .deposited + x)) k x .accounts) (plus k x ∷ [])
+  pub deposit-posted : {k x : ℕ} → MayDeposit b k x → Posted (b .accounts) (pay (with-deposited b (b .deposited + x)) k x .accounts) (plus k x ∷ [])
   unfolding pay
-  deposit-posted k x g = post (b .accounts) k (pos x) (cell k (g .there)) (posted-none _)
+  deposit-posted {k} {x} g = post (b .accounts) k (pos x) (cell k (g .there)) (posted-none _)
 
-  pub deposit-tables : (k x : ℕ) → MayDeposit b k x → SoundTables (pay (with-deposited b (b .deposited + x)) k x)
+  pub deposit-tables : {k x : ℕ} → MayDeposit b k x → SoundTables (pay (with-deposited b (b .deposited + x)) k x)
   unfolding pay
-  deposit-tables k x g =
-      let h = r .core .terms in
-      let p = deposit-posted k x g in
-      record {
-        core = record {
-          terms = record { tonnes-some = h .tonnes-some; tonnes-few = h .tonnes-few; rate-few = h .rate-few; price-some = h .price-some; price-few = h .price-few; day-few = h .day-few; deposits-few = g .room };
-          accounts = posted-accounts p (r .core .accounts);
-          matches = r .core .matches;
-          receipts = r .core .receipts;
-        };
-        offers = posted-offers p (r .offers);
-        matches-few = r .matches-few;
-        matches-open = r .matches-open;
-      }
+  deposit-tables g = let p = deposit-posted g in search (posted-accounts, posted-offers)
 
-  pub withdraw-posted : (k x : ℕ) → MayWithdraw b k x → Posted (b .accounts) (charge b k x .accounts) (minus k x ∷ [])
+  pub withdraw-posted : {k x : ℕ} → MayWithdraw b k x → Posted (b .accounts) (charge b k x .accounts) (minus k x ∷ [])
   unfolding charge
-  withdraw-posted k x g = post (b .accounts) k (negℤ (pos x)) (cell k (g .there)) (posted-none _)
+  withdraw-posted {k} {x} g = post (b .accounts) k (negℤ (pos x)) (cell k (g .there)) (posted-none _)
 
-  pub withdraw-tables : (k x : ℕ) → MayWithdraw b k x → SoundTables (charge b k x)
+  pub withdraw-tables : {k x : ℕ} → MayWithdraw b k x → SoundTables (charge b k x)
   unfolding charge
-  withdraw-tables k x g =
-      let p = withdraw-posted k x g in
-      record {
-        core = record { terms = r .core .terms; accounts = posted-accounts p (r .core .accounts); matches = r .core .matches; receipts = r .core .receipts };
-        offers = posted-offers p (r .offers);
-        matches-few = r .matches-few;
-        matches-open = r .matches-open;
-      }
+  withdraw-tables g = let p = withdraw-posted g in search (posted-accounts, posted-offers)
 
-  pub trade-tables : (buyer seller u : ℕ) → MayTrade b buyer seller u → SoundTables (traded b buyer seller u)
-  trade-tables buyer seller u g =
+  pub trade-tables : {buyer seller u : ℕ} → MayTrade b buyer seller u → SoundTables (traded b buyer seller u)
+  trade-tables {buyer} {seller} {u} g =
       let x = account-at b buyer in
       let y = account-at b seller in
       let c = add-units b buyer Side.Long u in
       let e : account-at c seller ≡ y = getD-set-other (b .accounts) buyer seller (units-on x Side.Long u (b .day)) blank-account (λ q. g .two (sym q)) in
       let s : SoundTables c = tables-put buyer (units-on x Side.Long u (b .day)) r
-      (on-sound x Side.Long u (λ q. let z : _≡_ {A = ℕ} 0 1 = cc in omega arith) (g .some) (g .buyer-few) (r .core .accounts .rows buyer (g .buyer-there))) (on-long-offer x u (b .day) (g .buyer-side) (r .offers buyer (g .buyer-there))) in
+      (on-sound x Side.Long u (λ q. impossible (cc)) (g .some) (g .buyer-few) (r .core .accounts .rows buyer (g .buyer-there))) (on-long-offer x u (b .day) (g .buyer-side) (r .offers buyer (g .buyer-there))) in
       tables-put seller (units-on (account-at c seller) Side.Short u (b .day)) s
-      (subst (λ (a : Account). SoundAccount (b .day) (units-on a Side.Short u (b .day))) (sym e) (on-sound y Side.Short u (λ q. let z : _≡_ {A = ℕ} 0 1 = cc in omega arith) (g .some) (g .seller-few) (r .core .accounts .rows seller (g .seller-there))))
-      (subst (λ (a : Account). SoundOffer (units-on a Side.Short u (b .day))) (sym e) (on-short-offer y u (b .day) (r .offers seller (g .seller-there))))
+      (rw e (on-sound y Side.Short u (λ q. impossible (cc)) (g .some) (g .seller-few) (r .core .accounts .rows seller (g .seller-there))))
+      (rw e (on-short-offer y u (b .day) (r .offers seller (g .seller-there))))
 
-  pub lodge-tables : (owner class : ℕ) → MayLodge b owner class → SoundTables (add-receipt b (new-receipt owner class))
-  lodge-tables owner class g = tables-receipts _ _ (receipts-add (new-receipt owner class) (g .space) (g .owner-there) refl (g .no-board) (r .core .receipts)) r
+  pub lodge-tables : {owner class : ℕ} → MayLodge b owner class → SoundTables (add-receipt b (new-receipt owner class))
+  lodge-tables {owner} {class} g = tables-receipts _ _ (receipts-add (new-receipt owner class) (g .space) (g .owner-there) refl (g .no-board) (r .core .receipts)) r
 
-  pub strike-tables : (owner i : ℕ) → MayStrike b owner i → SoundTables (put-receipt b i (with-state (receipt-at b i) ReceiptState.Struck))
-  strike-tables owner i g = tables-receipts _ _ (receipts-put i (with-state (receipt-at b i) ReceiptState.Struck) (g .there) (r .core .receipts .rows i (g .there) .owner-there) refl (r .core .receipts)) r
+  pub strike-tables : {owner i : ℕ} → MayStrike b owner i → SoundTables (put-receipt b i (with-state (receipt-at b i) ReceiptState.Struck))
+  strike-tables {i = i} g = tables-receipts _ _ (receipts-put i (with-state (receipt-at b i) ReceiptState.Struck) (g .there) (r .core .receipts .rows i (g .there) .owner-there) refl (r .core .receipts)) r
 
-  pub declare-tables : (k h : ℕ) → MayDeclare b k h → SoundTables (put-account b k (with-heat (account-at b k) (Heat.Declared h)))
-  declare-tables k h g =
+  pub declare-tables : {k h : ℕ} → MayDeclare b k h → SoundTables (put-account b k (with-heat (account-at b k) (Heat.Declared h)))
+  declare-tables {k} {h} g =
       let o = r .offers k (g .there) in
-      tables-put k (with-heat (account-at b k) (Heat.Declared h)) r (heat-sound (account-at b k) h (g .low) (g .high) (r .core .accounts .rows k (g .there))) (record { offered = o .offered; offered-some = o .offered-some })
+      tables-put k (with-heat (account-at b k) (Heat.Declared h)) r (heat-sound (account-at b k) h (g .low) (g .high) (r .core .accounts .rows k (g .there))) (search)
 
   -- another offer of an account
   offer-put : (k : ℕ) (o : Offer) → k < b .«account_count» → SoundOffer (with-offer (account-at b k) o) → SoundTables (put-account b k (with-offer (account-at b k) o))
-  offer-put k o h s = tables-put k (with-offer (account-at b k) o) r (account-still (b .day) (account-at b k .cash) o (omega arith) (r .core .accounts .rows k h)) s
+  offer-put k o h s = let a = r .core .accounts .rows k h in tables-put k (with-offer (account-at b k) o) r (search) s
 
-  pub offer-tables : (seller u : ℕ) → MayOffer b seller u → SoundTables (put-account b seller (with-offer (account-at b seller) (Offer.Units u)))
-  offer-tables seller u g =
-      let s = g .short in
-      offer-put seller (Offer.Units u) (g .there) (record { offered = λ x e. let q : u ≡ x = cc in omega arith; offered-some = λ x e. let q : u ≡ x = cc in omega (arith, g .some) })
+  pub offer-tables : {seller u : ℕ} → MayOffer b seller u → SoundTables (put-account b seller (with-offer (account-at b seller) (Offer.Units u)))
+  offer-tables {seller} {u} g =
+      offer-put seller (Offer.Units u) (g .there) (record { offered = λ x e. let q : u ≡ x = cc in omega (arith, g .short); offered-some = λ x e. let q : u ≡ x = cc in omega (arith, g .some) })
 
-  pub retract-tables : (seller : ℕ) → MayRetract b seller → SoundTables (end-offer b seller)
-  retract-tables seller g = offer-put seller Offer.Missing (g .there) (no-offer (with-offer (account-at b seller) Offer.Missing) refl)
+  pub retract-tables : {seller : ℕ} → MayRetract b seller → SoundTables (end-offer b seller)
+  retract-tables {seller} g = offer-put seller Offer.Missing (g .there) (no-offer (with-offer (account-at b seller) Offer.Missing) refl)
 
-  pub day-tables : (p : ℕ) → MayDay b p → SoundTables (with-day b p (b .day + 1))
-  day-tables p g =
-      let h = r .core .terms in
+  pub day-tables : {p : ℕ} → MayDay b p → SoundTables (with-day b p (b .day + 1))
+  day-tables g =
       let t = r .core .accounts in
-      record {
-        core = record {
-          terms = record { tonnes-some = h .tonnes-some; tonnes-few = h .tonnes-few; rate-few = h .rate-few; price-some = g .some; price-few = g .few; day-few = omega (arith, g .early); deposits-few = h .deposits-few };
-          accounts = record { size = t .size; few = t .few; rows = λ k m. account-still (b .day + 1) (account-at b k .cash) (account-at b k .offer) (omega arith) (t .rows k m) };
-          matches = matches-more (omega arith) (omega arith) (r .core .matches);
-          receipts = r .core .receipts;
-        };
-        offers = r .offers;
-        matches-few = r .matches-few;
-        matches-open = r .matches-open;
-      }
+      let a : AccountTable (b .day + 1) (b .«account_count») (b .accounts) = record { size = t .size; few = t .few; rows = λ k m. let s = t .rows k m in search arith } in
+      let m = matches-more {n′ = b .«account_count»} {day′ = b .day + 1} (omega arith) (omega arith) (r .core .matches) in
+      search arith

@@ -1,44 +1,27 @@
 -- The three passes of Close and the end of the offers: whatever every proper pairing keeps, the passes keep, and they make at most 62 matches.
 -- Assumes nothing.
-use mathlib.Core.Path.{_≡_, refl, sym, ap, _∙_, subst}
+use mathlib.Core.Path.{_≡_, refl, sym, ap, _∙_}
 use mathlib.Core.Bool.{Bool, true, false, _&&_}
 use mathlib.Core.List.{List, [], _∷_}
 use Prim.Native.Nat.{ℕ, zero, suc, _+_, _-_, _*_, _≤_, _<_, min}
 use native.Mathlib.Omega.{arith}
 use lib.Dec.{eqb, ltb}
 use lib.ListN.{length, getD, length-set}
-use lib.Seq.{getD-set-same, getD-set-other}
 use borrow.Author.Tests.{ltb-true, eqb-true, lt-ltb, le-ltb}
 use Rattle.coal.specs.Choice.{pick}
-use Rattle.book.specs.declared.Side.{Side}
-use Rattle.book.specs.declared.Offer.{Offer}
-use Rattle.book.specs.declared.Account.{Account}
-use Rattle.book.specs.declared.Book.{Book}
-use Rattle.book.specs.declared.Found.{Found}
-use Rattle.book.specs.declared.Listed.{Listed}
+use Rattle.book.specs.Types.{Side, Offer, Account, Book, Found, Listed}
 use Rattle.book.specs.Counting.{lowest, those, tally, one-if}
 use Rattle.book.specs.Rows.{blank-account, is-long, is-short, any-class, bonded-only, with-offer, units-off}
 use Rattle.book.specs.Tables.{account-at}
 use Rattle.book.specs.Pairing.{pair}
 use Rattle.book.specs.Closing.{use-up, is-buyer, is-seller, is-overseas-buyer, with-units, in-order, overseas-buyers, bonded-offer, bonded-sellers, buyers, sellers, first-pass, pair-whole, equal-seller, second-turn, second-pass, third-pass, all-passes, lapse-turn, lapse-offers}
-use Rattle.book.specs.laws.Counting.{by-pick, by-eq, and-left, and-right, iter-keeps, at-set, tally-sum, one-most, tally-two, tally-few}
-use Rattle.book.specs.laws.Sound.{SoundAccount, Core}
-use Rattle.book.specs.laws.Tables.{account-still}
-use Rattle.book.specs.laws.Pairing.{Pairable, pairable, Paired, pair-core, paired-accounts, paired-matches, paired-sum}
+use Rattle.book.specs.laws.Counting.{by-pick, rows-add, and-left, and-right, iter-keeps, at-set, tally-sum, one-most, tally-two, tally-few}
+use Rattle.book.specs.laws.Sound.{AccountTable, Core}
+use Rattle.book.specs.laws.Pairing.{Pairable, long-side, short-side, pairable, Paired, pair-core, paired-accounts, paired-matches, paired-sum}
 use Rattle.book.specs.laws.Walking.{All, all-of, left-of, Member, Listing, Passed, walk-keeps}
 use Rattle.book.specs.laws.Listing.{those-all, listed, listed-length, listed-left, order-all, order-length, order-left}
 
 -- ---- who is listed
-
-long-is : (s : Side) → is-long s ≡ true → s ≡ Side.Long
-long-is Side.Flat e = cc
-long-is Side.Long e = refl
-long-is Side.Short e = cc
-
-short-is : (s : Side) → is-short s ≡ true → s ≡ Side.Short
-short-is Side.Flat e = cc
-short-is Side.Long e = cc
-short-is Side.Short e = refl
 
 module _ (b : Book) where
   -- those who are listed as offering bonded receipts
@@ -58,16 +41,16 @@ module _ (b : Book) where
 
   module _ (r : Core b) where
     buyer-some : (k : ℕ) → k < b .«account_count» → is-buyer b k ≡ true → 0 < account-at b k .units
-    buyer-some k h e = r .accounts .rows k h .long-some (long-is (account-at b k .side) e)
+    buyer-some k h e = r .accounts .rows k h .long-some (long-side (account-at b k .side) 1 1 (omega arith) (rw e (omega arith)) .0)
 
     seller-some : (k : ℕ) → k < b .«account_count» → is-seller b k ≡ true → 0 < account-at b k .units
-    seller-some k h e = r .accounts .rows k h .short-some (short-is (account-at b k .side) e)
+    seller-some k h e = r .accounts .rows k h .short-some (short-side (account-at b k .side) 1 1 (omega arith) (rw e (omega arith)) .0)
 
     -- the accounts at which a test holds, with something for each
     members : (g : ℕ → ℕ) (p : ℕ → Bool) → ((k : ℕ) → k < b .«account_count» → p k ≡ true → 0 < g k) → All (λ k. Member (b .«account_count») (listed g k)) (those (b .«account_count») 0 p)
     members g p h = those-all (λ k. Member (b .«account_count») (listed g k)) p (b .«account_count») 0 (λ k x y e. record { there = omega arith; some = h k (omega arith) e })
 
-    pub first-listing : Listing b (overseas-buyers b) (bonded-sellers b)
+    first-listing : Listing b (overseas-buyers b) (bonded-sellers b)
     unfolding overseas-buyers bonded-sellers
     first-listing =
         let n = b .«account_count» in
@@ -172,21 +155,18 @@ module _ (P : List Listed → List Listed → Book → Type 0) (Q : Book → Typ
 
 module _ (P : Book → Type 0) (keep : (b : Book) (c : Bool) (x y u : ℕ) → Core b → Pairable b x y u → P b → P (pair b c 1 x y u)) where
   -- twice the matches and the accounts with units: the same all through the second pass
-  record Second (n low sum-of : ℕ) (i : ℕ) (e : Book) : Type 0 where
+  record Second (n low sum-of : ℕ) (e : Book) : Type 0 where
     pub core : Core e
     pub kept : P e
     pub accounts : e .«account_count» ≡ n
     pub low-count : low ≤ e .«match_count»
     pub whole : 2 * e .«match_count» + busy e ≡ sum-of
 
-  second-stay : {n low t i : ℕ} {e : Book} → Second n low t i e → Second n low t (i + 1) e
-  second-stay s = record { core = s .core; kept = s .kept; accounts = s .accounts; low-count = s .low-count; whole = s .whole }
-
-  second-one : (n low t : ℕ) → t ≤ 222 → (i : ℕ) (e : Book) → i < n → Second n low t i e → Second n low t (i + 1) (second-turn i e)
+  second-one : (n low t : ℕ) → t ≤ 222 → (i : ℕ) (e : Book) → i < n → Second n low t e → Second n low t (second-turn i e)
   unfolding second-turn equal-seller
   second-one n low t m i e h s =
-      by-pick (Second n low t (i + 1)) (is-buyer e i)
-      (λ q. lowest-cases (λ (f : Found). Second n low t (i + 1) (pair-whole e i f)) (λ l. is-seller e l && eqb (account-at e l .units) (account-at e i .units)) (e .«account_count») 0
+      by-pick (Second n low t) (is-buyer e i)
+      (λ q. lowest-cases (λ (f : Found). Second n low t (pair-whole e i f)) (λ l. is-seller e l && eqb (account-at e l .units) (account-at e i .units)) (e .«account_count») 0
       (λ l g z.
       let r = s .core in
       let u = account-at e i .units in
@@ -202,16 +182,16 @@ module _ (P : Book → Type 0) (keep : (b : Book) (c : Bool) (x y u : ℕ) → C
         low-count = omega (arith, paired-matches w, s .low-count);
         whole = omega (arith, paired-matches w, s .whole, busy-less p w r refl (sym v));
       })
-      (second-stay s))
-      (λ q. second-stay s)
+      s)
+      (λ q. s)
 
-  second-keeps : (b : Book) → b .«match_count» ≤ 95 → Core b → P b → Second (b .«account_count») (b .«match_count») (2 * b .«match_count» + busy b) (b .«account_count») (second-pass b)
+  second-keeps : (b : Book) → b .«match_count» ≤ 95 → Core b → P b → Second (b .«account_count») (b .«match_count») (2 * b .«match_count» + busy b) (second-pass b)
   unfolding second-pass
   second-keeps b m r h =
       let k = tally-few (λ k. ltb 0 (account-at b k .units)) (b .«account_count») in
       let n = b .«account_count» in
       let t = 2 * b .«match_count» + busy b in
-      iter-keeps (Second n (b .«match_count») t) second-turn n (second-one n (b .«match_count») t (omega (arith, r .accounts .few))) n 0 b (omega arith)
+      iter-keeps (λ i e. Second n (b .«match_count») t e) second-turn n (second-one n (b .«match_count») t (omega (arith, r .accounts .few))) n 0 b (omega arith)
       (record { core = r; kept = h; accounts = refl; low-count = omega arith; whole = refl })
 
   third-keeps : (b : Book) → b .«match_count» + (busy b - 1) ≤ 128 → Core b → P b → Passed P (b .«account_count») (b .«match_count») (b .«match_count» + (busy b - 1)) (third-pass b)
@@ -258,9 +238,7 @@ lapse-one l i m h s =
     record {
       size = simp length-set (s .size);
       rows = λ k. at-set (λ (x : Account). x ≡ with-offer (getD l k blank-account) (x .offer)) m i k a blank-account (λ q. rw q (ap (λ (x : Account). with-offer x Offer.Missing) (s .rows i))) (s .rows k);
-      ended = λ k g. by-eq k i
-          (λ q. rw q (ap (λ (x : Account). x .offer) (getD-set-same m i a blank-account (omega (arith, s .size)))))
-          (λ q. ap (λ (x : Account). x .offer) (getD-set-other m i k a blank-account q) ∙ s .ended k (omega arith));
+      ended = rows-add (λ (x : Account). x .offer ≡ Offer.Missing) m i a blank-account (omega (arith, s .size)) (s .ended) refl;
     }
 
 -- the offers lapse, and the accounts are else as they were; all else is so by computation
@@ -274,14 +252,7 @@ lapsed b h =
 pub lapse-core : (b : Book) → Core b → Core (lapse-offers b)
 unfolding lapse-offers
 lapse-core b r =
-    let l = lapsed b (omega (arith, r .accounts .size, r .accounts .few)) in
-    record {
-      terms = r .terms;
-      accounts = record {
-        size = l .size ∙ r .accounts .size;
-        few = r .accounts .few;
-        rows = λ k h. subst (SoundAccount (b .day)) (sym (l .rows k)) (account-still (b .day) (account-at b k .cash) _ (omega arith) (r .accounts .rows k h));
-      };
-      matches = r .matches;
-      receipts = r .receipts;
-    }
+    let t = r .accounts in
+    let l = lapsed b (omega (arith, t .size, t .few)) in
+    let a : AccountTable (b .day) (b .«account_count») (lapse-offers b .accounts) = record { size = l .size ∙ t .size; few = t .few; rows = λ k h. let s = t .rows k h in rw (l .rows k) (search) } in
+    search

@@ -32,6 +32,10 @@ pub and-right : (s t : Bool) → s && t ≡ true → t ≡ true
 and-right true t e = e
 and-right false t e = cc
 
+-- whatever is wanted, where the facts in hand contradict each other: `impossible (cc)`
+pub impossible : {A : Type 0} → _≡_ {A = ℕ} 0 1 → A
+impossible e = absurd (omega arith)
+
 -- equal numbers or not
 pub by-eq : {P : Type 0} (j k : ℕ) → (j ≡ k → P) → (j ≢ k → P) → P
 by-eq {P} j k h g = go (eqb j k) refl
@@ -73,7 +77,7 @@ sum-suc f zero i = rw (add-zero i) (omega arith)
 sum-suc f (suc n) i = let e : i + 1 + n ≡ i + suc n = omega arith in rw (sum-suc f n (i + 1), e) (omega arith)
 
 -- one term more
-pub sum-last : (f : ℕ → ℕ) (n : ℕ) → sum (n + 1) 0 f ≡ sum n 0 f + f n
+sum-last : (f : ℕ → ℕ) (n : ℕ) → sum (n + 1) 0 f ≡ sum n 0 f + f n
 sum-last f n = rw add-one (sum-suc f n 0 ∙ rw zero-add)
 
 -- one term changes
@@ -169,13 +173,10 @@ total-suc f (suc n) i = let e : i + 1 + n ≡ i + suc n = omega arith in rw (tot
 pub total-last : (f : ℕ → ℤ) (n : ℕ) → total (n + 1) 0 f ≡ total n 0 f +ℤ f n
 total-last f n = rw add-one (total-suc f n 0 ∙ rw zero-add)
 
-cross : (a b c d : ℤ) → (a +ℤ b) +ℤ (c +ℤ d) ≡ (a +ℤ c) +ℤ (b +ℤ d)
-cross a b c d = simp ring
-
 pub total-plus : (f g : ℕ → ℤ) (n i : ℕ) → total n i (λ k. f k +ℤ g k) ≡ total n i f +ℤ total n i g
 unfolding total
 total-plus f g zero i = refl
-total-plus f g (suc n) i = rw (total-plus f g n (i + 1)) (cross (f i) (g i) (total n (i + 1) f) (total n (i + 1) g))
+total-plus f g (suc n) i = rw (total-plus f g n (i + 1)) (simp ring)
 
 pub total-none : (f : ℕ → ℤ) (n i : ℕ) → ((j : ℕ) → i ≤ j → j < i + n → f j ≡ pos 0) → total n i f ≡ pos 0
 unfolding total
@@ -225,13 +226,12 @@ pub sum-set : {A : Type 0} (f : A → ℕ) (l : List A) (n k : ℕ) (a d : A) �
     → sum n 0 (λ j. f (getD (set l k a) j d)) + f (getD l k d) ≡ sum n 0 (λ j. f (getD l j d)) + f a
 sum-set f l n k a d h s =
     let e = sum-change (λ j. f (getD (set l k a) j d)) (λ j. f (getD l j d)) n 0 k (omega arith) (omega arith) (λ j q. ap f (getD-set-other l k j a d q)) in
-    e ∙ ap (λ (x : ℕ). sum n 0 (λ j. f (getD l j d)) + x) (ap f (getD-set-same l k a d s))
+    omega (arith, ap f (getD-set-same l k a d s))
 
 -- where one is added
 pub sum-add : {A : Type 0} (f : A → ℕ) (l : List A) (n : ℕ) (a d : A) → n < length l
     → sum (n + 1) 0 (λ j. f (getD (set l n a) j d)) ≡ sum n 0 (λ j. f (getD l j d)) + f a
 sum-add f l n a d s =
     let e = sum-last (λ j. f (getD (set l n a) j d)) n in
-    let g = ap f (getD-set-same l n a d s) in
     let r = sum-same (λ j. f (getD (set l n a) j d)) (λ j. f (getD l j d)) n 0 (λ k x y. ap f (getD-set-other l n k a d (omega arith))) in
-    omega arith
+    omega (arith, ap f (getD-set-same l n a d s))

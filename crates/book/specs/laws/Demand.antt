@@ -1,8 +1,7 @@
 -- Demand 3, whole: for every list of calls from the book of any accepted opening. Assumes nothing.
 use mathlib.Core.Path.{_≡_}
 use Prim.Native.Nat.{ℕ, _<_}
-use Rattle.book.specs.declared.ReceiptState.{ReceiptState}
-use Rattle.book.specs.declared.Book.{Book}
+use Rattle.book.specs.Types.{ReceiptState, Book}
 use Rattle.book.specs.Tables.{receipt-at, frozen-receipts}
 use Rattle.book.specs.Opening.{opening}
 use Rattle.book.specs.Lists.{after}

@@ -1,6 +1,6 @@
 -- The first pass of an accepted Close, in the words of demand 3: it gave out the lesser of what was open and what was offered, and filled older
 -- positions first. What the walk keeps, from its lists' start to the end of one; then what the later pairings leave of it. Assumes nothing.
-use mathlib.Core.Path.{_≡_, refl, sym, ap, _∙_, subst}
+use mathlib.Core.Path.{_≡_, refl, sym, ap, _∙_}
 use mathlib.Core.Logic.{_⊎_, inl, inr}
 use mathlib.Core.Bool.{Bool, true, false, _&&_}
 use mathlib.Core.List.{List, [], _∷_}
@@ -9,11 +9,7 @@ use native.Mathlib.Omega.{arith}
 use lib.Dec.{eqb, ltb}
 use borrow.Author.Tests.{ltb-false}
 use Rattle.coal.specs.Choice.{pick}
-use Rattle.book.specs.declared.ReceiptState.{ReceiptState}
-use Rattle.book.specs.declared.Book.{Book}
-use Rattle.book.specs.declared.Call.{Call}
-use Rattle.book.specs.declared.Outcome.{Outcome}
-use Rattle.book.specs.declared.Listed.{Listed}
+use Rattle.book.specs.Types.{ReceiptState, Book, Call, Outcome, Listed}
 use Rattle.book.specs.Counting.{those, sum}
 use Rattle.book.specs.Rows.{is-free, is-short, long-units, short-units, bonded-only}
 use Rattle.book.specs.Tables.{account-at, receipt-at, with-open, free-receipts}
@@ -23,7 +19,7 @@ use Rattle.book.specs.Closing.{use-up, is-buyer, is-seller, is-overseas-
 use Rattle.book.specs.Calls.{step}
 use Rattle.book.specs.Lists.{accepts}
 use Rattle.book.specs.Demand3.{overseas-units-open, bonded-units-offered, frozen-for-buyer, gave, gave-out, FirstPass}
-use Rattle.book.specs.laws.Counting.{by-pick, by-eq, and-left, and-right, sum-same, sum-none, sum-change, tally-same, tally-none, sum-plus, only, only-here, only-else}
+use Rattle.book.specs.laws.Counting.{by-pick, by-eq, and-left, and-right, sum-same, sum-none, sum-change, tally-same, tally-none, sum-plus, only, only-here, only-else, impossible}
 use Rattle.book.specs.laws.Answered.{Answered, answered}
 use Rattle.book.specs.laws.Sound.{Core, SoundTables}
 use Rattle.book.specs.laws.Pairing.{Pairable, pairable-long, pairable-short, Paired, pair-core, paired-long, paired-short}
@@ -36,7 +32,7 @@ use Rattle.book.specs.laws.Given.{Since, gave-none, since-pair, free-pai
 abbrev offering : Book → ℕ → ℕ
 offering z k = min (short-units (account-at z k)) (free-receipts z bonded-only k)
 
--- nobody whom no listed account is as old as is listed
+-- who is older than every listed account is not listed
 older-none : (f : ℕ → ℕ) (l : ℕ) (xs : List Listed) → All (λ (x : Listed). f l < f (x .account)) xs → left-of l xs ≡ 0
 unfolding left-of
 older-none f l [] h = refl
@@ -91,59 +87,34 @@ module _ (b : Book) where
 
   walking-one : (x y : Listed) (xs ys : List Listed) (z : Book) → Core z → Pairable z (x .account) (y .account) (min (x .left) (y .left)) → Walking (x ∷ xs) (y ∷ ys) z
       → Walking (use-up (min (x .left) (y .left)) x xs) (use-up (min (x .left) (y .left)) y ys) (pair z bonded-only 1 (x .account) (y .account) (min (x .left) (y .left)))
-  walking-one x y xs ys z r p w = record {
-    giving = record {
-      since = since-pair b z bonded-only i j u s r p;
-      filled = λ k h e. omega (arith, v .filled k h e, gives k, long k, pairable-long p k);
-      out = omega (arith, v .out, more, less);
-      older = λ k l h e g d. by-eq k i
-          (λ q. let a : day l < day i = rw q at d in omega (arith, long l, w .buyers l h (and-left (account-at b l .overseas) _ e), older-none day l (x ∷ xs) (a, all-map (λ (y : Listed). day i ≤ day (y .account)) (λ (y : Listed). day l < day (y .account)) xs (λ y o. omega arith) (w .rising .0))))
-          (λ q. omega (arith, long l, v .older k l h e (omega (arith, gives k, only-else i u k q)) d));
-    };
-    buyers = λ k h e. omega (arith, w .buyers k h e, long k, use-up-left u x xs k (omega arith));
-    sellers = λ k h. omega (arith, w .sellers k h, offers k, use-up-left u y ys k (omega arith));
-    rising = by-pick (Rising (λ (x : Listed). day (x .account))) (eqb (x .left - u) 0) (λ e. w .rising .1) (λ e. w .rising);
-    members = use-up-all u x xs (λ (x : Listed). is-overseas-buyer b (x .account) ≡ true) (λ g. w .members .0) (w .members .1);
-  }
-    where
-      i : ℕ
-      i = x .account
-
-      j : ℕ
-      j = y .account
-
-      u : ℕ
-      u = min (x .left) (y .left)
-
-      e : Book
-      e = pair z bonded-only 1 i j u
-
-      v : Giving z
-      v = w .giving
-
-      s : Since b z
-      s = v .since
-
-      q : Paired z 1 i j u e
-      q = pair-core z bonded-only 1 i j u (omega arith) p r
-
-      enough : u ≤ free-receipts z bonded-only j
-      enough = omega (arith, w .sellers j (omega (arith, p .seller-there, s .accounts)), front-left y ys)
-
-      gives : (k : ℕ) → gave b e k ≡ gave b z k + only i u k
-      gives k = first-gave b z i j u s r p enough k
-
-      long : (k : ℕ) → long-units (account-at e k) ≡ long-units (account-at z k) - only i u k
-      long k = paired-long p q r k
-
-      offers : (k : ℕ) → offering e k + only j u k ≡ offering z k
-      offers k = omega (arith, paired-short p q r k, first-free b z i j u s r p enough k, pairable-short p k)
-
-      more : gave-out b e ≡ gave-out b z + u
-      more = more-out z e i u (omega (arith, p .buyer-there, s .accounts)) (w .members .0) gives
-
-      less : sum n 0 (offering e) + u ≡ sum n 0 (offering z)
-      less = omega (arith, sum-change (offering e) (offering z) n 0 j (omega arith) (omega (arith, p .seller-there, s .accounts)) (λ k d. omega (arith, offers k, only-else j u k d)), offers j, only-here j u)
+  walking-one x y xs ys z r p w =
+      let i = x .account in
+      let j = y .account in
+      let u = min (x .left) (y .left) in
+      let e = pair z bonded-only 1 i j u in
+      let v = w .giving in
+      let s = v .since in
+      let q : Paired z 1 i j u e = pair-core z bonded-only 1 i j u (omega arith) p r in
+      let enough : u ≤ free-receipts z bonded-only j = omega (arith, w .sellers j (omega (arith, p .seller-there, s .accounts)), front-left y ys) in
+      let gives : (k : ℕ) → gave b e k ≡ gave b z k + only i u k = λ k. first-gave b z i j u s r p enough k in
+      let long : (k : ℕ) → long-units (account-at e k) ≡ long-units (account-at z k) - only i u k = λ k. paired-long p q r k in
+      let offers : (k : ℕ) → offering e k + only j u k ≡ offering z k = λ k. omega (arith, paired-short p q r k, first-free b z i j u s r p enough k, pairable-short p k) in
+      let more : gave-out b e ≡ gave-out b z + u = more-out z e i u (omega (arith, p .buyer-there, s .accounts)) (w .members .0) gives in
+      let less = sum-change (offering e) (offering z) n 0 j (omega arith) (omega (arith, p .seller-there, s .accounts)) (λ k d. omega (arith, offers k, only-else j u k d)) in
+      record {
+        giving = record {
+          since = since-pair b z bonded-only i j u s r p;
+          filled = λ k h e. omega (arith, v .filled k h e, gives k, long k, pairable-long p k);
+          out = omega (arith, v .out, offers j, only-here j u);
+          older = λ k l h e g d. by-eq k i
+              (λ q. let a : day l < day i = rw q at d in omega (arith, long l, w .buyers l h (and-left (account-at b l .overseas) _ e), older-none day l (x ∷ xs) (a, all-map (λ (y : Listed). day i ≤ day (y .account)) (λ (y : Listed). day l < day (y .account)) xs (λ y o. omega arith) (w .rising .0))))
+              (λ q. omega (arith, long l, v .older k l h e (omega (arith, gives k, only-else i u k q)) d));
+        };
+        buyers = λ k h e. omega (arith, w .buyers k h e, long k, use-up-left u x xs k (omega arith));
+        sellers = λ k h. omega (arith, w .sellers k h, offers k, use-up-left u y ys k (omega arith));
+        rising = by-pick (Rising (λ (x : Listed). day (x .account))) (eqb (x .left - u) 0) (λ e. w .rising .1) (λ e. w .rising);
+        members = use-up-all u x xs (λ (x : Listed). is-overseas-buyer b (x .account) ≡ true) (λ g. w .members .0) (w .members .1);
+      }
 
   -- ---- the lists' start
 
@@ -199,7 +170,7 @@ module _ (b : Book) where
       first-walk Walking Walked walking-one
       (λ ys z c w. record { giving = w .giving; over = inl (λ k h e. omega (arith, w .buyers k h e, older-none day k [] tt)) })
       (λ xs z c w. record { giving = w .giving; over = inr (λ k h. w .sellers k h ∙ older-none day k [] tt) })
-      b m r (λ q. absurd (let z : _≡_ {A = ℕ} 0 1 = cc in omega arith)) walking-start
+      b m r (λ q. impossible (cc)) walking-start
 
   -- the units of overseas buyers that are open yet
   abbrev still-open : Book → ℕ → ℕ
@@ -296,21 +267,14 @@ lapse-holds b z f = record {
   older-filled = λ k l o p g h. lapse-gave b z l ∙ f .older-filled k l o p (omega (arith, lapse-gave b z k)) h;
 }
 
--- an accepted Close is of an open market
-record Shut (b : Book) (o : Outcome) : Type 0 where
-  is-open : b .«open» ≡ true
-  left : o .book ≡ with-open (lapse-offers (all-passes b)) false
-
-accepted : {b : Book} {o : Outcome} → Answered b Call.Close o → is-accepted (o .answer) ≡ true → Shut b o
-accepted (Answered.refused n) h = absurd (let z : _≡_ {A = ℕ} 0 1 = cc in omega arith)
-accepted (Answered.closes g) h = record { is-open = g .is-open; left = refl }
+closed-holds : {b : Book} {o : Outcome} → Answered b Call.Close o → SoundTables b → is-accepted (o .answer) ≡ true → FirstPass b (o .book)
+closed-holds (Answered.refused n) t h = impossible (cc)
+closed-holds {b} (Answered.closes g) t h = lapse-holds b (all-passes b) (go (b .board) refl)
+  where
+    go : (k : Bool) → b .board ≡ k → FirstPass b (all-passes b)
+    go true q = board-holds b (all-passes b) q (t .core)
+    go false q = passes-hold b q (t .matches-open (g .is-open)) (t .core)
 
 -- the first pass of an accepted Close gave out the lesser of the two, and filled older positions first
 pub first-pass-holds : (b : Book) → SoundTables b → accepts b Call.Close ≡ true → FirstPass b (step b Call.Close .book)
-first-pass-holds b t a =
-    let c = accepted (answered b Call.Close) a in
-    subst (FirstPass b) (sym (c .left)) (lapse-holds b (all-passes b) (go (b .board) refl (t .matches-open (c .is-open))))
-  where
-    go : (k : Bool) → b .board ≡ k → b .«match_count» ≤ 64 → FirstPass b (all-passes b)
-    go true q m = board-holds b (all-passes b) q (t .core)
-    go false q m = passes-hold b q m (t .core)
+first-pass-holds b = closed-holds (answered b Call.Close)

@@ -1,6 +1,6 @@
 -- The receipts of a pairing: which ones are frozen and how many, and that the table stays sound. By the turns of the loop, of which each sees one
 -- receipt. Assumes nothing.
-use mathlib.Core.Path.{_≡_, refl, sym, ap, _∙_, subst}
+use mathlib.Core.Path.{_≡_, refl, sym, ap, _∙_}
 use mathlib.Core.Logic.{_≢_}
 use mathlib.Core.Bool.{Bool, true, false, _&&_}
 use mathlib.Core.List.{List}
@@ -12,11 +12,7 @@ use lib.ListN.{length, getD, set, length-set}
 use lib.Seq.{getD-set-same, getD-set-other}
 use borrow.Author.Tests.{eqb-true, eqb-false, ltb-true, ltb-false, ne-eqb}
 use Rattle.coal.specs.Choice.{pick}
-use Rattle.book.specs.declared.ReceiptState.{ReceiptState}
-use Rattle.book.specs.declared.Stage.{Stage}
-use Rattle.book.specs.declared.Receipt.{Receipt}
-use Rattle.book.specs.declared.Match.{Match}
-use Rattle.book.specs.declared.Freezing.{Freezing}
+use Rattle.book.specs.Types.{ReceiptState, Stage, Receipt, Match, Freezing}
 use Rattle.book.specs.Counting.{iter, tally, one-if}
 use Rattle.book.specs.Rows.{blank-receipt, blank-match, is-free, is-free-of, is-frozen-for, frozen-for}
 use Rattle.book.specs.Tables.{free-at, frozen-at}
@@ -42,21 +38,9 @@ free-is ReceiptState.Free e = refl
 free-is (ReceiptState.Frozen j) e = cc
 free-is ReceiptState.Struck e = cc
 
-pub free-facts : (l : List Receipt) (c : Bool) (k i : ℕ) → free-at l c k i ≡ true → Free c k (getD l i blank-receipt)
+free-facts : (l : List Receipt) (c : Bool) (k i : ℕ) → free-at l c k i ≡ true → Free c k (getD l i blank-receipt)
 unfolding free-at
-free-facts l c k i e =
-    let r = getD l i blank-receipt in
-    let g = and-left (is-free (r .state) && eqb (r .owner) k) (pick c (r .bonded) true) e in
-    record {
-      state = free-is (r .state) (and-left (is-free (r .state)) _ g);
-      owner = eqb-true _ _ (and-right (is-free (r .state)) _ g);
-      class = and-right (is-free (r .state) && eqb (r .owner) k) (pick c (r .bonded) true) e;
-    }
-
--- is-free-of reads the one row
-free-row : (l m : List Receipt) (c : Bool) (k i : ℕ) → getD m i blank-receipt ≡ getD l i blank-receipt → free-at m c k i ≡ free-at l c k i
-unfolding free-at
-free-row l m c k i e = ap (is-free-of c k) e
+free-facts l c k i e = search (free-is, eqb-true, and-left, and-right)
 
 one-none : (t : Bool) → one-if t ≡ 0 → t ≡ false
 one-none true e = absurd (omega arith)
@@ -119,13 +103,13 @@ module _ (c : Bool) (seller u : ℕ) (l : List Receipt) where
         }
 
     froze-one : Froze j (i + 1) (freeze-turn c seller j i t)
-    unfolding freeze-turn
+    unfolding freeze-turn free-at
     froze-one =
         let p = free-at l c seller in
         let x : one-if (newly c seller u l i) ≡ min (u - tally i 0 p) (one-if (p i)) = newly-one i in
         let y = tally-last p i in
         let z = f .left-over in
-        let w : free-at (t .receipts) c seller i ≡ p i = free-row l (t .receipts) c seller i (f .above i (omega arith)) in
+        let w : free-at (t .receipts) c seller i ≡ p i = ap (is-free-of c seller) (f .above i (omega arith)) in
         by-pick (Froze j (i + 1)) (eqb (t .left) 0)
         (λ e. let v : t .left ≡ 0 = eqb-true _ _ e in stay (one-none (newly c seller u l i) (omega arith)) (omega arith))
         (λ e. let v = eqb-false (t .left) 0 e in by-pick (Froze j (i + 1)) (free-at (t .receipts) c seller i)
@@ -151,15 +135,15 @@ module _ (c : Bool) (seller u : ℕ) (l : List Receipt) where
     -- for match j, for which none was frozen, only new ones
     new-ones : is-frozen-for j (getD l i blank-receipt .state) ≡ false → one-if (frozen-at (frozen-table j n) j i) ≤ one-if (newly c seller u l i)
     unfolding frozen-at
-    new-ones z = subst (λ (r : Receipt). one-if (is-frozen-for j (r .state)) ≤ one-if (newly c seller u l i)) (sym (frozen-row j n i h g))
+    new-ones z = rw (frozen-row j n i h g)
         (by-pick (λ (r : Receipt). one-if (is-frozen-for j (r .state)) ≤ one-if (newly c seller u l i)) (newly c seller u l i) (λ e. rw e (one-most (eqb j j))) (λ e. rw z (omega arith)))
 
     old-ones : (k : ℕ) → k ≢ j → one-if (frozen-at (frozen-table j n) k i) ≤ one-if (frozen-at l k i)
     unfolding frozen-at
-    old-ones k d = subst (λ (r : Receipt). one-if (is-frozen-for k (r .state)) ≤ one-if (frozen-at l k i)) (sym (frozen-row j n i h g))
+    old-ones k d = rw (frozen-row j n i h g)
         (by-pick (λ (r : Receipt). one-if (is-frozen-for k (r .state)) ≤ one-if (frozen-at l k i)) (newly c seller u l i) (λ e. rw (ne-eqb j k (λ q. d (sym q))) (omega arith)) (λ e. omega arith))
 
-  -- match j of the seller, paired, for which none was frozen, gets at most u
+  -- for match j of the seller, which is paired, has u units or more and had no receipt frozen for it
   pub frozen-sound : {n m : ℕ} {ms : List Match} {board : Bool} {count : ℕ} (j : ℕ) → j < m → getD ms j blank-match .stage ≡ Stage.Paired → getD ms j blank-match .seller ≡ seller
       → u ≤ getD ms j blank-match .units → None-frozen count l j → ReceiptTable n m ms board count l → ReceiptTable n m ms board count (frozen-table j count)
   frozen-sound {n} {m} {ms} {board} {count} j q p o v z t =
@@ -168,12 +152,12 @@ module _ (c : Bool) (seller u : ℕ) (l : List Receipt) where
         size = froze-all j count h .size ∙ t .size;
         few = t .few;
         none = t .none;
-        rows = λ i g. subst (SoundReceipt n m ms) (sym (frozen-row j count i h g)) (by-pick (SoundReceipt n m ms) (newly c seller u l i)
+        rows = λ i g. rw (frozen-row j count i h g) (by-pick (SoundReceipt n m ms) (newly c seller u l i)
             (λ e. record {
               owner-there = t .rows i g .owner-there;
               frozen-there = λ k d. let y : j ≡ k = cc in omega arith;
-              frozen-paired = λ k d. let y : j ≡ k = cc in ap (λ (x : ℕ). getD ms x blank-match .stage) (sym y) ∙ p;
-              frozen-seller = λ k d. let y : j ≡ k = cc in newly-free i e .owner ∙ sym o ∙ ap (λ (x : ℕ). getD ms x blank-match .seller) y;
+              frozen-paired = λ k d. let y : j ≡ k = cc in rw (← y) p;
+              frozen-seller = λ k d. let y : j ≡ k = cc in rw (← y) (newly-free i e .owner ∙ sym o);
             })
             (λ e. t .rows i g));
         no-more = λ k g. by-eq k j

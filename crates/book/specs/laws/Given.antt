@@ -1,5 +1,5 @@
 -- What one pairing gives a buyer, by the receipts that were free before Close, and what it leaves free. Receipt by receipt. Assumes nothing.
-use mathlib.Core.Path.{_≡_, refl, sym, ap, _∙_, subst}
+use mathlib.Core.Path.{_≡_, refl, sym, ap, _∙_}
 use mathlib.Core.Logic.{_≢_}
 use mathlib.Core.Bool.{Bool, true, false, _&&_}
 use mathlib.Core.List.{List}
@@ -9,11 +9,7 @@ use lib.Dec.{eqb}
 use lib.ListN.{getD}
 use borrow.Author.Tests.{eq-eqb, ne-eqb}
 use Rattle.coal.specs.Choice.{pick}
-use Rattle.book.specs.declared.ReceiptState.{ReceiptState}
-use Rattle.book.specs.declared.Account.{Account}
-use Rattle.book.specs.declared.Receipt.{Receipt}
-use Rattle.book.specs.declared.Match.{Match}
-use Rattle.book.specs.declared.Book.{Book}
+use Rattle.book.specs.Types.{ReceiptState, Account, Receipt, Match, Book}
 use Rattle.book.specs.Counting.{tally, one-if}
 use Rattle.book.specs.Rows.{blank-receipt, is-free, is-free-of, bonded-only, frozen-for}
 use Rattle.book.specs.Tables.{account-at, receipt-at, free-at, free-receipts}
@@ -86,11 +82,8 @@ module _ (b z : Book) (c : Bool) (i j u : ℕ) (s : Since b z) (r : Core z) (p :
   paired : Paired z 1 i j u e
   paired = pair-core z c 1 i j u (omega arith) p r
 
-  row : (x : ℕ) → x < b .«receipt_count» → receipt-at e x ≡ pick (new x) (frozen-for (z .«match_count») (receipt-at z x)) (receipt-at z x)
-  row x h = pair-receipt z c 1 i j u r x (omega (arith, s .receipts))
-
   by-row : (P : Receipt → Type 0) (x : ℕ) → x < b .«receipt_count» → (new x ≡ true → P (frozen-for (z .«match_count») (receipt-at z x))) → (new x ≡ false → P (receipt-at z x)) → P (receipt-at e x)
-  by-row P x h f g = subst P (sym (row x h)) (by-pick P (new x) f g)
+  by-row P x h f g = rw (pair-receipt z c 1 i j u r x (omega (arith, s .receipts))) (by-pick P (new x) f g)
 
   pub since-pair : Since b e
   since-pair = record {
@@ -123,7 +116,7 @@ module _ (b z : Book) (c : Bool) (i j u : ℕ) (s : Since b z) (r : Core z) (p :
       go false d = refl
 
   -- the buyer is given the bonded ones of those that are newly frozen
-  pub gave-pair : (k : ℕ) → gave b e k ≡ gave b z k + tally (b .«receipt_count») 0 (λ x. new x && (receipt-at z x .bonded && eqb i k))
+  gave-pair : (k : ℕ) → gave b e k ≡ gave b z k + tally (b .«receipt_count») 0 (λ x. new x && (receipt-at z x .bonded && eqb i k))
   unfolding gave
   gave-pair k = tally-plus (gave-at b e k) (gave-at b z k) (λ x. new x && (receipt-at z x .bonded && eqb i k)) (b .«receipt_count») 0 (λ x f g. gave-row k x (omega arith))
 

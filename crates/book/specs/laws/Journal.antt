@@ -8,12 +8,7 @@ use native.Mathlib.Omega.{arith}
 use lib.IntN.{pos}
 use lib.Signed.{ltZ}
 use lib.ListN.{length}
-use Rattle.book.specs.declared.Account.{Account}
-use Rattle.book.specs.declared.Receipt.{Receipt}
-use Rattle.book.specs.declared.Match.{Match}
-use Rattle.book.specs.declared.Book.{Book}
-use Rattle.book.specs.declared.Outcome.{Outcome}
-use Rattle.book.specs.declared.Call.{Call}
+use Rattle.book.specs.Types.{Account, Receipt, Match, Book, Outcome, Call}
 use Rattle.book.specs.Codes.{stage-number}
 use Rattle.book.specs.Counting.{sum}
 use Rattle.book.specs.Rows.{blank-account, blank-match, any-class, offer-units, units-off}
@@ -119,15 +114,15 @@ change : {b : Book} {c : Call} {o : Outcome} → Answered b c o → SoundTables 
 unfolding entries amounts
 change (Answered.refused n) r = refused
 change (Answered.joins {residence = h} {fitness = f} g) r = joined (new-account h f) refl
-change {b} (Answered.deposits {k = k} {x = x} g) r = paid-in k x (g .there) (deposit-posted b r k x g)
-change {b} (Answered.withdraws {k = k} {x = x} g) r = paid-out k x (g .there) (g .enough) (withdraw-posted b r k x g)
+change {b} (Answered.deposits {k = k} {x = x} g) r = paid-in k x (g .there) (deposit-posted r g)
+change {b} (Answered.withdraws {k = k} {x = x} g) r = paid-out k x (g .there) (g .enough) (withdraw-posted r g)
 change {b} (Answered.trades {buyer = m} {seller = n} g) r = kept (kept-then (kept-account b m _ refl) (kept-account _ n _ refl))
 change {b} (Answered.lodges g) r = kept (kept-receipts b _ _)
 change {b} (Answered.strikes g) r = kept (kept-receipts b _ _)
 change {b} (Answered.declares {k = k} g) r = kept (kept-account b k _ refl)
 change {b} (Answered.offers {seller = n} g) r = kept (kept-account b n _ refl)
 change {b} (Answered.retracts {seller = n} g) r = kept (kept-account b n _ refl)
-change {b} (Answered.takes {buyer = m} {seller = n} g) r = kept (kept-then (kept-pair b any-class 2 m n (offer-units (account-at b n .offer)) (omega arith) (r .core) (take-pairable b r m n g)) (kept-account _ n _ refl))
+change {b} (Answered.takes {buyer = m} {seller = n} g) r = kept (kept-then (kept-pair b any-class 2 m n (offer-units (account-at b n .offer)) (omega arith) (r .core) (take-pairable r g)) (kept-account _ n _ refl))
 change {b} (Answered.days {p = p} g) r = kept (kept-frame b (b .receipts) (b .«receipt_count») p (b .day + 1) (b .«open»))
 change {b} (Answered.closes g) r = kept (kept-close b r (g .is-open))
 change {b} (Answered.settles {j = j} g) r = settled (settle-settles b r j (g .there) (g .paired))

@@ -9,10 +9,7 @@ use native.Mathlib.Omega.{arith}
 use lib.IntN.{ℤ, pos, negℤ, _+ℤ_, _-ℤ_, +ℤ-idr, +ℤ-idl, +ℤ-assoc}
 use Rattle.coal.specs.Choice.{pick}
 use Rattle.whole.specs.Ring.{ring}
-use Rattle.book.specs.declared.Account.{Account}
-use Rattle.book.specs.declared.Match.{Match}
-use Rattle.book.specs.declared.Book.{Book}
-use Rattle.book.specs.declared.Call.{Call}
+use Rattle.book.specs.Types.{Account, Match, Book, Call}
 use Rattle.book.specs.Counting.{sum, total}
 use Rattle.book.specs.Rows.{blank-account}
 use Rattle.book.specs.Tables.{account-at, match-at, add-account, with-deposited, pay, charge}
@@ -75,12 +72,6 @@ change-cash b z (settled s) k = posted-cash (s .posted) k
 unfoldable all-money : Book → ℤ
 all-money b = total-cash b +ℤ pos (total-held b) +ℤ pos (b .fund)
 
-no-change : (m : ℤ) → m ≡ m +ℤ (pos 0 -ℤ pos 0)
-no-change m = simp ring
-
-kept-change : (t h f : ℤ) → t +ℤ pos 0 +ℤ h +ℤ f ≡ t +ℤ h +ℤ f +ℤ (pos 0 -ℤ pos 0)
-kept-change t h f = simp ring
-
 in-change : (t h f : ℤ) (x : ℕ) → t +ℤ (pos x +ℤ pos 0) +ℤ h +ℤ f ≡ t +ℤ h +ℤ f +ℤ (pos x -ℤ pos 0)
 in-change t h f x = simp ring
 
@@ -105,11 +96,12 @@ settled-change t z f g h i x y e m =
 
 change-money : (b : Book) → SoundTables b → Bounded b → {es : List Entry} {d w : ℕ} {t : Bool} {e : Book} → Change b es d w t e → all-money e ≡ all-money b +ℤ (pos (pick t d 0) -ℤ pos (pick t w 0))
 unfolding all-money pay charge total-held all-entries entry-sum
-change-money b r z refused = no-change (all-money b)
+change-money b r z refused = simp ring
 change-money b r z (kept {e = e} h) =
-    rw (total-moved b e [] (h .count) (change-cash b z (kept h)) tt, h .held, h .fund) (kept-change (total-cash b) (pos (total-held b)) (pos (b .fund)))
+    rw (total-moved b e [] (h .count) (change-cash b z (kept h)) tt, h .held, h .fund) (simp ring)
 change-money b r z (joined a h) =
-    ap (λ (t : ℤ). t +ℤ pos (total-held b) +ℤ pos (b .fund)) (total-joined b (add-account b a) refl (change-cash b z (joined a h)) (z .blank (b .«account_count») (omega arith))) ∙ no-change (all-money b)
+    let none : all-money b ≡ all-money b +ℤ (pos 0 -ℤ pos 0) = simp ring in
+    ap (λ (t : ℤ). t +ℤ pos (total-held b) +ℤ pos (b .fund)) (total-joined b (add-account b a) refl (change-cash b z (joined a h)) (z .blank (b .«account_count») (omega arith))) ∙ none
 change-money b r z (paid-in k x h p) =
     ap (λ (t : ℤ). t +ℤ pos (total-held b) +ℤ pos (b .fund)) (total-moved b (pay (with-deposited b (b .deposited + x)) k x) (plus k x ∷ []) refl (posted-cash p) (h, tt)) ∙ in-change (total-cash b) (pos (total-held b)) (pos (b .fund)) x
 change-money b r z (paid-out k x h n p) =
@@ -125,7 +117,7 @@ one-more m d w e v = simp ring
 
 list-money : (b : Book) (cs : List Call) → Reached b → all-money (after b cs) ≡ all-money b +ℤ (pos (deposits-accepted b cs) -ℤ pos (withdrawals-accepted b cs))
 unfolding after sum-accepted
-list-money b [] h = no-change (all-money b)
+list-money b [] h = simp ring
 list-money b (c ∷ cs) h =
     let r = reached-tables h in
     list-money (step b c .book) cs (called c h)

@@ -1,6 +1,6 @@
--- A proper pairing: it keeps what holds of the tables, but for the seller's offer, and what it leaves of accounts, matches and receipts.
+-- A proper pairing: it keeps what holds of the tables, but for the offers, and what it leaves of accounts, matches and receipts.
 -- Assumes nothing.
-use mathlib.Core.Path.{_≡_, refl, sym, ap, _∙_, subst}
+use mathlib.Core.Path.{_≡_, refl, sym, ap, subst}
 use mathlib.Core.Logic.{_≢_}
 use mathlib.Core.Bool.{Bool, true, false}
 use mathlib.Core.List.{List}
@@ -11,18 +11,14 @@ use lib.ListN.{getD, set, length-set}
 use lib.Seq.{getD-set-same, getD-set-other}
 use borrow.Author.Tests.{eqb-true, eqb-false}
 use Rattle.coal.specs.Choice.{pick}
-use Rattle.book.specs.declared.Side.{Side}
-use Rattle.book.specs.declared.Account.{Account}
-use Rattle.book.specs.declared.Receipt.{Receipt}
-use Rattle.book.specs.declared.Match.{Match}
-use Rattle.book.specs.declared.Book.{Book}
+use Rattle.book.specs.Types.{Side, Heat, Stage, Account, Receipt, Match, Book}
 use Rattle.book.specs.Counting.{sum}
 use Rattle.book.specs.Rows.{blank-account, blank-receipt, blank-match, with-position, units-off, is-long, is-short, long-units, short-units, frozen-for}
 use Rattle.book.specs.Tables.{account-at, receipt-at, match-at, add-match, with-receipts}
 use Rattle.book.specs.Pairing.{taken, take-units, new-match, freeze, pair}
-use Rattle.book.specs.laws.Counting.{by-pick, by-eq, at-set, rows-add, sum-set, only, only-here, only-else}
+use Rattle.book.specs.laws.Counting.{by-pick, by-eq, at-set, sum-set, only, only-here, only-else, impossible}
 use Rattle.book.specs.laws.Sound.{SoundAccount, SoundMatch, ReceiptTable, Core}
-use Rattle.book.specs.laws.Tables.{core-put, None-frozen, not-frozen, receipts-rematched}
+use Rattle.book.specs.laws.Tables.{account-placed, matches-add, core-put, None-frozen, not-frozen, receipts-rematched}
 use Rattle.book.specs.laws.Freezing.{newly, frozen-row, frozen-sound}
 
 -- ---- a proper pairing
@@ -37,10 +33,8 @@ pub record Pairable (b : Book) (buyer seller u : ℕ) : Type 0 where
   pub seller-has : u ≤ account-at b seller .units
   pub room : b .«match_count» < 128
 
-pub pairable-two : {b : Book} {buyer seller u : ℕ} → Pairable b buyer seller u → buyer ≢ seller
-pairable-two {b} h e =
-    let q : Side.Long ≡ Side.Short = sym (h .buyer-long) ∙ ap (λ (k : ℕ). account-at b k .side) e ∙ h .seller-short in
-    let z : _≡_ {A = ℕ} 0 1 = cc in omega arith
+pairable-two : {b : Book} {buyer seller u : ℕ} → Pairable b buyer seller u → buyer ≢ seller
+pairable-two h e = impossible (cc)
 
 -- sides by what is on them
 pub long-side : (s : Side) (x u : ℕ) → 0 < u → u ≤ pick (is-long s) x 0 → ((s ≡ Side.Long) × (u ≤ x))
@@ -73,24 +67,8 @@ off-sound : {day : ℕ} (a : Account) (u : ℕ) → SoundAccount day a → Sound
 off-sound {day} a u r = go (eqb (a .units - u) 0) refl
   where
     go : (t : Bool) → eqb (a .units - u) 0 ≡ t → SoundAccount day (with-position a (pick t Side.Flat (a .side)) (a .units - u) (a .opened))
-    go true e = record {
-      few = omega (arith, r .few);
-      flat-none = λ h. eqb-true _ _ e;
-      long-some = λ h. absurd (let z : _≡_ {A = ℕ} 0 1 = cc in omega arith);
-      short-some = λ h. absurd (let z : _≡_ {A = ℕ} 0 1 = cc in omega arith);
-      past = r .past;
-      heat-low = r .heat-low;
-      heat-high = r .heat-high;
-    }
-    go false e = let n = eqb-false (a .units - u) 0 e in record {
-      few = omega (arith, r .few);
-      flat-none = λ h. omega (arith, r .flat-none h);
-      long-some = λ h. omega arith;
-      short-some = λ h. omega arith;
-      past = r .past;
-      heat-low = r .heat-low;
-      heat-high = r .heat-high;
-    }
+    go true e = account-placed r (omega (arith, r .few)) (λ h. eqb-true _ _ e) (λ h. impossible (cc)) (λ h. impossible (cc)) (r .past)
+    go false e = let n = eqb-false (a .units - u) 0 e in account-placed r (omega (arith, r .few)) (λ h. omega (arith, r .flat-none h)) (λ h. omega arith) (λ h. omega arith) (r .past)
 
 -- no receipt is frozen for a match that is not there yet
 beyond-none : {n m : ℕ} {ms : List Match} {board : Bool} {count : ℕ} {l : List Receipt} → ReceiptTable n m ms board count l → None-frozen count l m
@@ -99,37 +77,17 @@ beyond-none {m = m} {l = l} t i h = not-frozen (getD l i blank-receipt .state) m
 new-sound : (b : Book) (days buyer seller u : ℕ) → days ≤ 2 → Pairable b buyer seller u → Core b → SoundMatch (b .«account_count») (b .day) (b .tonnes) (b .board) (new-match b buyer seller u days)
 new-sound b days buyer seller u d p r =
     let s = r .accounts .rows seller (p .seller-there) in
-    record {
-      buyer-there = p .buyer-there;
-      seller-there = p .seller-there;
-      two = pairable-two p;
-      some = p .some;
-      few = omega (arith, s .few, p .seller-has);
-      price-high = r .terms .price-few;
-      price-low = r .terms .price-some;
-      due-soon = omega arith;
-      heat-low = s .heat-low;
-      heat-high = s .heat-high;
-      paired-none = λ e. refl;
-      prepaid-value = λ e. cc;
-      prepaid-board = λ e. cc;
-      prepaid-heat = λ e. let z : _≡_ {A = ℕ} 0 1 = cc in absurd (omega arith);
-      closed-none = λ e. refl;
-      ended-none = λ e. refl;
-      held-few = omega arith;
-    }
+    let few : u ≤ 1_000 = omega (arith, s .few, p .seller-has) in
+    let none : 0 ≤ 22_000_000_000_000 = omega arith in
+    search (unpaid {A = account-at b seller .heat ≡ Heat.Missing → ⊥}, unpaid, pairable-two, arith)
+  where
+    unpaid : {A : Type 0} → Stage.Paired ≡ Stage.Prepaid → A
+    unpaid e = impossible (cc)
 
 core-match : (b : Book) (c : Match) → b .«match_count» < 128 → SoundMatch (b .«account_count») (b .day) (b .tonnes) (b .board) c → Core b → Core (add-match b c)
-core-match b c h m r = record {
-  terms = r .terms;
-  accounts = r .accounts;
-  matches = record {
-    size = simp length-set (r .matches .size);
-    few = omega arith;
-    rows = rows-add (SoundMatch (b .«account_count») (b .day) (b .tonnes) (b .board)) (b .matches) (b .«match_count») c blank-match (omega (arith, r .matches .size)) (r .matches .rows) m;
-  };
-  receipts = receipts-rematched (b .«match_count» + 1) (b .«match_count») c (omega arith) (λ k g d. omega arith) (beyond-none (r .receipts)) (r .receipts);
-}
+core-match b c h m r =
+    let l = receipts-rematched (b .«match_count» + 1) (b .«match_count») c (omega arith) (λ k g d. omega arith) (beyond-none (r .receipts)) (r .receipts) in
+    search matches-add
 
 -- whatever units an account loses
 off-core : (b : Book) (k u : ℕ) → k < b .«account_count» → Core b → Core (take-units b k u)
@@ -155,15 +113,9 @@ pair-core b c days buyer seller u d p r =
     let e : getD (set (b .matches) n m) n blank-match ≡ m = getD-set-same (b .matches) n m blank-match (omega (arith, r .matches .size, p .room)) in
     by-pick (Paired b days buyer seller u) (b .board)
     (λ q. record { core = k; same = refl })
-    (λ q. record {
-      core = record {
-        terms = k .terms;
-        accounts = k .accounts;
-        matches = k .matches;
-        receipts = frozen-sound c seller u (b .receipts) n (omega arith) (ap (λ (x : Match). x .stage) e) (ap (λ (x : Match). x .seller) e) (omega (arith, ap (λ (x : Match). x .units) e)) (beyond-none (r .receipts)) (k .receipts);
-      };
-      same = refl;
-    })
+    (λ q.
+    let t = frozen-sound c seller u (b .receipts) n (omega arith) (ap (λ (x : Match). x .stage) e) (ap (λ (x : Match). x .seller) e) (omega (arith, ap (λ (x : Match). x .units) e)) (beyond-none (r .receipts)) (k .receipts) in
+    record { core = search; same = refl })
 
 -- each receipt of the book is as it was, or newly frozen for the new match
 pub pair-receipt : (b : Book) (c : Bool) (days buyer seller u : ℕ) → Core b → (i : ℕ) → i < b .«receipt_count»
@@ -197,26 +149,17 @@ off-units f h a u =
     go false = omega arith
 
 module _ {b e : Book} {days buyer seller u : ℕ} (p : Pairable b buyer seller u) (q : Paired b days buyer seller u e) (r : Core b) where
-  pub paired-seller : account-at e seller ≡ units-off (account-at b seller) u
+  paired-seller : account-at e seller ≡ units-off (account-at b seller) u
   paired-seller =
       let l = set (b .accounts) buyer (units-off (account-at b buyer) u) in
-      ap (λ (x : Book). account-at x seller) (q .same)
-      ∙ getD-set-same l seller (units-off (getD l seller blank-account) u) blank-account (rw length-set (omega (arith, p .seller-there, r .accounts .size, r .accounts .few)))
-      ∙ ap (λ (a : Account). units-off a u) (getD-set-other (b .accounts) buyer seller (units-off (account-at b buyer) u) blank-account (λ z. pairable-two p (sym z)))
+      rw (q .same, getD-set-same l seller _ blank-account (rw length-set (omega (arith, p .seller-there, r .accounts .size, r .accounts .few))), getD-set-other _ buyer seller _ blank-account (λ z. pairable-two p (sym z)))
 
   pub paired-buyer : account-at e buyer ≡ units-off (account-at b buyer) u
   paired-buyer =
-      let l = set (b .accounts) buyer (units-off (account-at b buyer) u) in
-      ap (λ (x : Book). account-at x buyer) (q .same)
-      ∙ getD-set-other l seller buyer (units-off (getD l seller blank-account) u) blank-account (pairable-two p)
-      ∙ getD-set-same (b .accounts) buyer (units-off (account-at b buyer) u) blank-account (omega (arith, p .buyer-there, r .accounts .size, r .accounts .few))
+      rw (q .same, getD-set-other _ seller buyer _ blank-account (pairable-two p), getD-set-same (b .accounts) buyer _ blank-account (omega (arith, p .buyer-there, r .accounts .size, r .accounts .few)))
 
   pub paired-other : (k : ℕ) → k ≢ buyer → k ≢ seller → account-at e k ≡ account-at b k
-  paired-other k h g =
-      let l = set (b .accounts) buyer (units-off (account-at b buyer) u) in
-      ap (λ (x : Book). account-at x k) (q .same)
-      ∙ getD-set-other l seller k (units-off (getD l seller blank-account) u) blank-account g
-      ∙ getD-set-other (b .accounts) buyer k (units-off (account-at b buyer) u) blank-account h
+  paired-other k h g = rw (q .same, getD-set-other _ seller k _ blank-account g, getD-set-other _ buyer k _ blank-account h)
 
   -- what holds of each account as it was, or with u units off
   pub paired-row : (P : Account → Type 0) (k : ℕ) → P (account-at b k) → ((a : Account) → P a → P (units-off a u)) → P (account-at e k)
@@ -244,10 +187,10 @@ module _ {b e : Book} {days buyer seller u : ℕ} (p : Pairable b buyer seller u
 
   -- the new match stands behind the others
   pub paired-new : match-at e (b .«match_count») ≡ new-match b buyer seller u days
-  paired-new = ap (λ (x : Book). match-at x (b .«match_count»)) (q .same) ∙ getD-set-same (b .matches) (b .«match_count») (new-match b buyer seller u days) blank-match (omega (arith, p .room, r .matches .size))
+  paired-new = rw (q .same, getD-set-same (b .matches) (b .«match_count») _ blank-match (omega (arith, p .room, r .matches .size)))
 
   pub paired-old : (j : ℕ) → j ≢ b .«match_count» → match-at e j ≡ match-at b j
-  paired-old j h = ap (λ (x : Book). match-at x j) (q .same) ∙ getD-set-other (b .matches) (b .«match_count») j (new-match b buyer seller u days) blank-match h
+  paired-old j h = rw (q .same, getD-set-other (b .matches) _ j _ blank-match h)
 
   -- a sum over the accounts: two terms change
   pub paired-sum : (f : Account → ℕ)

@@ -1,6 +1,6 @@
 -- Every reached book is sound: its tables by the calls, its cash and its fund by the bound on what calls move. Assumes nothing.
 use native.Mathlib.Omega.{arith}
-use Rattle.book.specs.declared.Book.{Book}
+use Rattle.book.specs.Types.{Book}
 use Rattle.book.specs.Lists.{Reached}
 use Rattle.book.specs.laws.Sound.{Sound}
 use Rattle.book.specs.laws.Steps.{reached-tables}

@@ -6,15 +6,7 @@ use mathlib.Core.List.{List}
 use Prim.Native.Nat.{ℕ, _+_, _*_, _≤_, _<_}
 use lib.ListN.{length, getD}
 use lib.IntN.{natAbs}
-use Rattle.book.specs.declared.Side.{Side}
-use Rattle.book.specs.declared.Heat.{Heat}
-use Rattle.book.specs.declared.Offer.{Offer}
-use Rattle.book.specs.declared.ReceiptState.{ReceiptState}
-use Rattle.book.specs.declared.Stage.{Stage}
-use Rattle.book.specs.declared.Account.{Account}
-use Rattle.book.specs.declared.Receipt.{Receipt}
-use Rattle.book.specs.declared.Match.{Match}
-use Rattle.book.specs.declared.Book.{Book}
+use Rattle.book.specs.Types.{Side, Heat, Offer, ReceiptState, Stage, Account, Receipt, Match, Book}
 use Rattle.book.specs.Counting.{tally}
 use Rattle.book.specs.Rows.{blank-account, blank-receipt, blank-match, short-units}
 use Rattle.book.specs.Tables.{account-at, frozen-at}

@@ -1,8 +1,6 @@
 -- Every call keeps the tables sound, so those of every reached book are. By cases on the answer, one lemma a call. Assumes nothing.
 use mathlib.Core.List.{List, [], _∷_}
-use Rattle.book.specs.declared.Book.{Book}
-use Rattle.book.specs.declared.Outcome.{Outcome}
-use Rattle.book.specs.declared.Call.{Call}
+use Rattle.book.specs.Types.{Book, Outcome, Call}
 use Rattle.book.specs.Calls.{step}
 use Rattle.book.specs.Lists.{Reached, opened, called, after}
 use Rattle.book.specs.laws.Answered.{Answered, answered}
@@ -11,20 +9,20 @@ use Rattle.book.specs.laws.Settling.{settlement-tables, settle-settles, 
 use Rattle.book.specs.laws.Calls.{opening-tables, join-tables, deposit-tables, withdraw-tables, trade-tables, lodge-tables, strike-tables, declare-tables, offer-tables, retract-tables, day-tables}
 use Rattle.book.specs.laws.Taking.{take-tables, close-tables}
 
-pub sound-tables : {b : Book} {c : Call} {o : Outcome} → Answered b c o → SoundTables b → SoundTables (o .book)
+sound-tables : {b : Book} {c : Call} {o : Outcome} → Answered b c o → SoundTables b → SoundTables (o .book)
 sound-tables (Answered.refused n) r = r
-sound-tables {b} (Answered.joins {residence = k} {fitness = f} g) r = join-tables b r k f g
-sound-tables {b} (Answered.deposits {k = k} {x = x} g) r = deposit-tables b r k x g
-sound-tables {b} (Answered.withdraws {k = k} {x = x} g) r = withdraw-tables b r k x g
-sound-tables {b} (Answered.trades {buyer = m} {seller = n} {u = u} g) r = trade-tables b r m n u g
-sound-tables {b} (Answered.lodges {owner = k} {class = c} g) r = lodge-tables b r k c g
-sound-tables {b} (Answered.strikes {owner = k} {i = i} g) r = strike-tables b r k i g
-sound-tables {b} (Answered.declares {k = k} {h = h} g) r = declare-tables b r k h g
-sound-tables {b} (Answered.offers {seller = n} {u = u} g) r = offer-tables b r n u g
-sound-tables {b} (Answered.retracts {seller = n} g) r = retract-tables b r n g
-sound-tables {b} (Answered.takes {buyer = m} {seller = n} g) r = take-tables b r m n g
-sound-tables {b} (Answered.days {p = p} g) r = day-tables b r p g
-sound-tables {b} (Answered.closes g) r = close-tables b r g
+sound-tables (Answered.joins g) r = join-tables r g
+sound-tables (Answered.deposits g) r = deposit-tables r g
+sound-tables (Answered.withdraws g) r = withdraw-tables r g
+sound-tables (Answered.trades g) r = trade-tables r g
+sound-tables (Answered.lodges g) r = lodge-tables r g
+sound-tables (Answered.strikes g) r = strike-tables r g
+sound-tables (Answered.declares g) r = declare-tables r g
+sound-tables (Answered.offers g) r = offer-tables r g
+sound-tables (Answered.retracts g) r = retract-tables r g
+sound-tables (Answered.takes g) r = take-tables r g
+sound-tables (Answered.days g) r = day-tables r g
+sound-tables (Answered.closes g) r = close-tables r g
 sound-tables {b} (Answered.settles {j = j} g) r = settlement-tables (settle-settles b r j (g .there) (g .paired)) r
 sound-tables {b} (Answered.measures {j = j} {w = w} {q = q} {m = m} {s = s} {f = f} {a = a} g) r = settlement-tables (measure-settles b r j (g .there) (g .prepaid) w q m s f a) r
 sound-tables {b} (Answered.invoices {j = j} g) r = settlement-tables (invoice-settles b r j (g .there) (g .in-hold)) r

@@ -8,13 +8,7 @@ use native.Mathlib.Omega.{arith}
 use lib.ListN.{getD, set, length-set}
 use lib.Seq.{getD-set-other}
 use Rattle.coal.specs.Choice.{pick}
-use Rattle.book.specs.declared.Side.{Side}
-use Rattle.book.specs.declared.Account.{Account}
-use Rattle.book.specs.declared.Receipt.{Receipt}
-use Rattle.book.specs.declared.Match.{Match}
-use Rattle.book.specs.declared.Book.{Book}
-use Rattle.book.specs.declared.Outcome.{Outcome}
-use Rattle.book.specs.declared.Call.{Call}
+use Rattle.book.specs.Types.{Side, Account, Receipt, Match, Book, Outcome, Call}
 use Rattle.book.specs.Counting.{sum}
 use Rattle.book.specs.Rows.{blank-account, blank-match, is-long, is-short, long-units, short-units, offer-units, any-class, units-on}
 use Rattle.book.specs.Tables.{account-at, match-at, put-account, with-receipts, with-open, with-day, add-account, pay, charge}
@@ -27,7 +21,7 @@ use Rattle.book.specs.Calls.{step}
 use Rattle.book.specs.Entries.{Entry}
 use Rattle.book.specs.Lists.{after, amounts, units-traded, sum-accepted}
 use Rattle.book.specs.Demand3.{units-in-matches, units-long, units-short}
-use Rattle.book.specs.laws.Counting.{sum-same, sum-set, sum-add, at-set}
+use Rattle.book.specs.laws.Counting.{by-pick, sum-same, sum-set, sum-add, at-set}
 use Rattle.book.specs.laws.Answered.{MayTrade, Answered, answered, of-opening}
 use Rattle.book.specs.laws.Sound.{SoundAccount, Core, SoundTables}
 use Rattle.book.specs.laws.Posting.{Posted}
@@ -124,22 +118,14 @@ even-join b residence fitness h r =
     let s = sum-add short-units (b .accounts) n a blank-account (omega (arith, r .core .accounts .size)) in
     record { traded = omega arith; balanced = omega arith }
 
--- units on one side, of an account that is not on the other
-on-long : {day : ℕ} (a : Account) (u d : ℕ) → SoundAccount day a → is-short (a .side) ≡ false → long-units (units-on a Side.Long u d) ≡ long-units a + u
-on-long a u d r e = go (a .side) refl
-  where
-    go : (s : Side) → a .side ≡ s → a .units + u ≡ pick (is-long s) (a .units) 0 + u
-    go Side.Flat q = omega (arith, r .flat-none q)
-    go Side.Long q = refl
-    go Side.Short q = let z : true ≡ false = sym (ap is-short q) ∙ e in cc
+-- units added on the side of a test, to an account that is on no other
+on-side : {day : ℕ} (f : Side → Bool) (a : Account) (u : ℕ) → SoundAccount day a → (f (a .side) ≡ false → a .side ≡ Side.Flat) → a .units + u ≡ pick (f (a .side)) (a .units) 0 + u
+on-side f a u r h = by-pick (λ (x : ℕ). a .units + u ≡ x + u) (f (a .side)) (λ e. refl) (λ e. omega (arith, r .flat-none (h e)))
 
-on-short : {day : ℕ} (a : Account) (u d : ℕ) → SoundAccount day a → is-long (a .side) ≡ false → short-units (units-on a Side.Short u d) ≡ short-units a + u
-on-short a u d r e = go (a .side) refl
-  where
-    go : (s : Side) → a .side ≡ s → a .units + u ≡ pick (is-short s) (a .units) 0 + u
-    go Side.Flat q = omega (arith, r .flat-none q)
-    go Side.Short q = refl
-    go Side.Long q = let z : true ≡ false = sym (ap is-long q) ∙ e in cc
+flat-is : (s : Side) → is-long s ≡ false → is-short s ≡ false → s ≡ Side.Flat
+flat-is Side.Flat e q = refl
+flat-is Side.Long e q = cc
+flat-is Side.Short e q = cc
 
 even-trade : (b : Book) (buyer seller u : ℕ) → MayTrade b buyer seller u → SoundTables b → Even b (traded b buyer seller u) u
 unfolding units-long units-short units-in-matches
@@ -152,13 +138,13 @@ even-trade b buyer seller u g r =
     let l = set (b .accounts) buyer x′ in
     let q : getD l seller blank-account ≡ y = getD-set-other (b .accounts) buyer seller x′ blank-account (λ z. g .two (sym z)) in
     let y′ = units-on (getD l seller blank-account) Side.Short u (b .day) in
-    let l₁ = sum-set long-units (b .accounts) n buyer x′ blank-account (g .buyer-there) (cell b r buyer (g .buyer-there)) in
-    let s₁ = sum-set short-units (b .accounts) n buyer x′ blank-account (g .buyer-there) (cell b r buyer (g .buyer-there)) in
-    let l₂ = sum-set long-units l n seller y′ blank-account (g .seller-there) (rw length-set (cell b r seller (g .seller-there))) in
-    let s₂ = sum-set short-units l n seller y′ blank-account (g .seller-there) (rw length-set (cell b r seller (g .seller-there))) in
-    let a₁ = on-long x u (b .day) (t .rows buyer (g .buyer-there)) (g .buyer-side) in
+    let l₁ = sum-set long-units (b .accounts) n buyer x′ blank-account (g .buyer-there) (cell r buyer (g .buyer-there)) in
+    let s₁ = sum-set short-units (b .accounts) n buyer x′ blank-account (g .buyer-there) (cell r buyer (g .buyer-there)) in
+    let l₂ = sum-set long-units l n seller y′ blank-account (g .seller-there) (rw length-set (cell r seller (g .seller-there))) in
+    let s₂ = sum-set short-units l n seller y′ blank-account (g .seller-there) (rw length-set (cell r seller (g .seller-there))) in
+    let a₁ = on-side is-long x u (t .rows buyer (g .buyer-there)) (λ e. flat-is _ e (g .buyer-side)) in
     let a₂ : short-units x ≡ 0 = rw (g .buyer-side) in
-    let a₃ = on-short y u (b .day) (t .rows seller (g .seller-there)) (g .seller-side) in
+    let a₃ = on-side is-short y u (t .rows seller (g .seller-there)) (λ e. flat-is _ (g .seller-side) e) in
     let a₄ : long-units y ≡ 0 = rw (g .seller-side) in
     let a₅ = ap long-units q in
     let a₆ = ap short-units q in
@@ -171,15 +157,15 @@ even : {b : Book} {c : Call} {o : Outcome} → Answered b c o → SoundTables b 
 unfolding amounts pay charge units-in-matches
 even {b} (Answered.refused n) r = even-none b
 even {b} (Answered.joins {residence = k} {fitness = f} g) r = even-join b k f (g .space) r
-even {b} (Answered.deposits {k = k} {x = x} g) r = even-posted refl (deposit-posted b r k x g) refl
-even {b} (Answered.withdraws {k = k} {x = x} g) r = even-posted refl (withdraw-posted b r k x g) refl
+even {b} (Answered.deposits g) r = even-posted refl (deposit-posted r g) refl
+even {b} (Answered.withdraws g) r = even-posted refl (withdraw-posted r g) refl
 even {b} (Answered.trades {buyer = m} {seller = n} {u = u} g) r = even-trade b m n u g r
 even {b} (Answered.lodges g) r = even-frame b _ _ (b .price) (b .day) (b .«open»)
 even {b} (Answered.strikes g) r = even-frame b _ _ (b .price) (b .day) (b .«open»)
 even {b} (Answered.declares {k = k} g) r = even-put b k _ refl refl
 even {b} (Answered.offers {seller = n} g) r = even-put b n _ refl refl
 even {b} (Answered.retracts {seller = n} g) r = even-put b n _ refl refl
-even {b} (Answered.takes {buyer = m} {seller = n} g) r = even-then (even-pair b any-class 2 m n (offer-units (account-at b n .offer)) (omega arith) (r .core) (take-pairable b r m n g)) (even-put _ n _ refl refl)
+even {b} (Answered.takes {buyer = m} {seller = n} g) r = even-then (even-pair b any-class 2 m n (offer-units (account-at b n .offer)) (omega arith) (r .core) (take-pairable r g)) (even-put _ n _ refl refl)
 even {b} (Answered.days {p = p} g) r = even-frame b (b .receipts) (b .«receipt_count») p (b .day + 1) (b .«open»)
 even {b} (Answered.closes g) r = even-close b r (g .is-open)
 even {b} (Answered.settles {j = j} g) r = even-settled r (settle-settles b r j (g .there) (g .paired))

@@ -1,5 +1,5 @@
--- The walk over two lists: each of its pairs is a proper one, and it makes fewer matches than the lists have members; what every such pair keeps,
--- it keeps, until one list ends. By induction on the turns. Assumes nothing.
+-- The walk over two lists: each of its pairs is a proper one, and it makes fewer matches than the lists have members, or none; what every such
+-- pair keeps, it keeps, until one list ends. By induction on the turns. Assumes nothing.
 use mathlib.Core.Path.{_≡_, refl, _∙_}
 use mathlib.Core.Bool.{Bool}
 use mathlib.Core.List.{List, [], _∷_, map}
@@ -8,8 +8,7 @@ use native.Mathlib.Omega.{arith}
 use lib.Dec.{eqb}
 use lib.ListN.{length}
 use borrow.Author.Tests.{eqb-true, eqb-false}
-use Rattle.book.specs.declared.Book.{Book}
-use Rattle.book.specs.declared.Listed.{Listed}
+use Rattle.book.specs.Types.{Book, Listed}
 use Rattle.book.specs.Rows.{long-units, short-units}
 use Rattle.book.specs.Tables.{account-at}
 use Rattle.book.specs.Pairing.{pair}
@@ -73,7 +72,7 @@ pub record Listing (b : Book) (xs ys : List Listed) : Type 0 where
   pub long : (k : ℕ) → k < b .«account_count» → left-of k xs ≤ long-units (account-at b k)
   pub short : (k : ℕ) → k < b .«account_count» → left-of k ys ≤ short-units (account-at b k)
 
-pub front-pairable : {b : Book} (x y : Listed) (xs ys : List Listed) → b .«match_count» < 128 → Listing b (x ∷ xs) (y ∷ ys) → Pairable b (x .account) (y .account) (min (x .left) (y .left))
+front-pairable : {b : Book} (x y : Listed) (xs ys : List Listed) → b .«match_count» < 128 → Listing b (x ∷ xs) (y ∷ ys) → Pairable b (x .account) (y .account) (min (x .left) (y .left))
 front-pairable {b} x y xs ys m l =
     let p = l .buyers .0 in
     let q = l .sellers .0 in

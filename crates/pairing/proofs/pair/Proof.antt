@@ -1,7 +1,6 @@
 -- `pair` meets its contract: the new match, the two rows, and in a receipts book the frozen receipts. Assumes nothing.
 use Rattle.book.specs.Pairing.{freeze, pair}
 use Rattle.rows.specs.Needs.{calls}
-use Rattle.rows.specs.Chain.{pick-true, pick-false}
 use Rattle.pairing.proofs.pair.Statement.{statement}
 use Rattle.pairing.proofs.pair.Tie as tie
 
@@ -30,9 +29,9 @@ pair-spec =
     (λ c.
     let y = c .before in
     let x = y .before .before in
-    pick-true _ _ _ _ (c .if1 .taken) (rw (y .units-off2 .ensures, x .units-off .ensures, x .before .before .new-match .ensures)))
+    rw (c .if1 .taken, y .units-off2 .ensures, x .units-off .ensures, x .before .before .new-match .ensures))
     (λ c κs. search calls)
     (λ c.
     let y = c .before .before .before in
     let x = y .before .before in
-    pick-false _ _ _ _ (c .before .before .if1 .left) (rw (c .freeze .ensures, y .units-off2 .ensures, x .units-off .ensures, x .before .before .new-match .ensures))))
+    rw (c .before .before .if1 .left, c .freeze .ensures, y .units-off2 .ensures, x .units-off .ensures, x .before .before .new-match .ensures)))

@@ -1,7 +1,7 @@
 -- `run` meets its contract: the loop goes line by line, and who writes what is told from there on has written all. Assumes nothing.
 use mathlib.Core.Path.{_≡_, refl, sym, _∙_}
 use mathlib.Core.Logic.{⊎-elim}
-use Prim.Native.Nat.{ℕ, _-_, _≤_, _<_}
+use Prim.Native.Nat.{_-_, _≤_, _<_}
 use native.Mathlib.Omega.{arith}
 use borrow.Author.Needs.{needs}
 use lib.ListN.{length}
@@ -100,6 +100,4 @@ run-spec =
     let rows = sound (inv .reached) .tables .core in
     (search needs, rows .accounts .few, rows .receipts .few, rows .matches .few))
     (λ c. search needs)
-    (λ c.
-    let at-end = c .before .before .before .before in
-    ended (at-end .before .loop .inv) (at-end .loop-test .left) (c .before .before .put-ledger .ensures .0)))
+    (λ c. search (needs, ended)))

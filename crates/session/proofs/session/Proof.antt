@@ -22,10 +22,10 @@ session-spec =
     (tie.spec
     (λ c κs. search needs)
     (λ c. search needs)
-    (λ c. delivered (too-long _ (c .before .before .before .before .if1 .taken)) (c .before .before .put-answer .ensures .0))
+    (λ c. search (needs, delivered, too-long))
     (λ c κs. search needs)
     (λ c. search needs)
-    (λ c. delivered (nothing _ (c .before .before .before .before .if2 .taken)) (c .before .before .put-answer2 .ensures .0))
+    (λ c. search (needs, delivered, nothing))
     (λ c κs. search needs)
     (λ c. sym (length-take-le _ _ (inside (c .before))))
     (λ c κs. search needs)

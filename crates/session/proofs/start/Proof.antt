@@ -11,13 +11,9 @@ start-spec =
     (λ c κs. search needs)
     (λ c κs. search needs)
     (λ c. search needs)
-    (λ c κs. (accepted-reached _ _ _ _ _ (c .before .before .before .before .before .before .before .opening .ensures) (c .before .enum-told .given .1), (search needs, (search needs, search needs))))
+    (λ c κs. (search (needs, accepted-reached), (search needs, (search needs, search needs))))
     (λ c. search needs)
     (λ c. search needs)
-    (λ c.
-    let told = c .before .before .before .before .enum-told in
-    let put = c .before .before .before .before .before .before .before .before .put-answer in
-    let o = c .before .before .before .before .before .before .before .before .before .before .opening in
-    accepted-put _ _ _ _ _ (o .ensures) _ (told .given .1) (put .ensures .0) (c .before .before .run .ensures))
+    (λ c. search (needs, accepted-put))
     (λ c. search needs)
-    (λ c. refused-put _ _ _ _ _ (c .before .before .before .before .before .before .opening .ensures) _ (c .enum-told2 .given .1) (c .before .before .before .before .put-answer .ensures .0)))
+    (λ c. search (needs, refused-put)))

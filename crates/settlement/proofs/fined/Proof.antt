@@ -1,6 +1,5 @@
 -- `fined` meets its contract, by whether both are at fault. Assumes nothing.
 use borrow.Author.Needs.{needs}
-use Rattle.rows.specs.Chain.{pick-true, pick-false}
 use Rattle.settlement.specs.Money.{fined, money}
 use Rattle.settlement.proofs.fined.Statement.{statement}
 use Rattle.settlement.proofs.fined.Tie as tie
@@ -12,6 +11,6 @@ fined-spec =
     (tie.spec
     (λ c κs. search (needs, money))
     (λ c. search needs)
-    (λ c. pick-true _ _ _ _ (c .before .if1 .taken) (rw (c .before .before .charge .ensures)))
+    (λ c. rw (c .before .if1 .taken, c .before .before .charge .ensures))
     (λ c κs. search (needs, money))
-    (λ c. pick-false _ _ _ _ (c .before .if1 .left) (rw (c .pay .ensures, c .before .before .charge .ensures))))
+    (λ c. rw (c .before .if1 .left, c .pay .ensures, c .before .before .charge .ensures)))

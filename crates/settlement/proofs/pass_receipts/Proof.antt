@@ -1,16 +1,14 @@
 -- `pass_receipts` meets its contract: the turns that are left, done to the present table, come to the whole. Assumes nothing.
-use mathlib.Core.Path.{_≡_}
-use Prim.Native.Nat.{_≤_, _-_}
-use native.Mathlib.Omega.{arith}
+use Prim.Native.Nat.{_-_}
 use borrow.Author.Needs.{needs}
 use Rattle.book.specs.Counting.{iter}
 use Rattle.book.specs.Settlement.{pass-turn}
-use Rattle.rows.specs.Loops.{iter-start, iter-turn, iter-done}
+use Rattle.rows.specs.Loops.{Turned, none-turned, one-turned, all-turned}
 use Rattle.settlement.proofs.pass_receipts.Statement.{statement}
 use Rattle.settlement.proofs.pass_receipts.Tie as tie
 
 abbrev Inv-loop : tie.InvT-loop
-Inv-loop count number buyer next₀ i₀ next i = (i ≤ count) × (iter (count - i) i (pass-turn number buyer) next ≡ iter count 0 (pass-turn number buyer) next₀)
+Inv-loop count number buyer next₀ i₀ next i = Turned (pass-turn number buyer) count (iter count 0 (pass-turn number buyer) next₀) i next
 
 abbrev μ-loop : tie.MeasureT-loop
 μ-loop count number buyer next₀ i₀ next i = count - i
@@ -21,7 +19,7 @@ pass-receipts-spec =
     tie.close
     (tie.spec
     Inv-loop μ-loop
-    (λ c. (search needs, iter-start (pass-turn _ _) _ _))
+    (λ c. none-turned _ _ _)
     (λ c. search needs)
     (λ c. search needs)
     (λ c κs. search needs)
@@ -29,5 +27,5 @@ pass-receipts-spec =
     (λ c. search needs)
     (λ c. search needs)
     (λ c. search needs)
-    (λ c. (omega arith, iter-turn (pass-turn _ _) _ _ _ _ _ (c .before .before .loop-test .taken) (rw (c .passed .ensures)) (c .before .before .before .loop .inv .1)))
-    (λ c. iter-done (pass-turn _ _) _ _ _ _ (c .loop-test .left) (c .before .loop .inv .1)))
+    (λ c. let t = c .before .before in one-turned (t .before .loop .inv) (t .loop-test .taken) (rw (c .passed .ensures)))
+    (λ c. all-turned (c .before .loop .inv) (c .loop-test .left)))

@@ -1,6 +1,5 @@
 -- `seller_lacks` meets its contract, by the kind of book. Assumes nothing.
 use borrow.Author.Needs.{needs}
-use Rattle.rows.specs.Chain.{pick-false}
 use Rattle.settlement.proofs.seller_lacks.Statement.{statement}
 use Rattle.settlement.proofs.seller_lacks.Tie as tie
 
@@ -11,4 +10,4 @@ seller-lacks-spec =
     (λ c κs. search needs)
     (λ c. search needs)
     (λ c. search needs)
-    (λ c. pick-false _ _ _ _ (c .before .if1 .left) (search needs)))
+    (λ c. rw (c .before .if1 .left) (search needs)))

@@ -2,7 +2,6 @@
 use mathlib.Core.Path.{_∙_}
 use borrow.Author.Needs.{needs}
 use Rattle.book.specs.Settlement.{settled}
-use Rattle.rows.specs.Chain.{pick-true, pick-false}
 use Rattle.settlement.specs.Money.{settled-fault, money}
 use Rattle.settlement.proofs.settled.Statement.{statement}
 use Rattle.settlement.proofs.settled.Tie as tie
@@ -15,12 +14,12 @@ settled-spec =
     (λ c. search needs)
     (λ c. search needs)
     (λ c κs. search needs)
-    (λ c. rw (c .before .before .enum-told2 .given .1, c .before .before .before .before .enum-told .given .1) (pick-true _ _ _ _ (c .before .if1 .taken) (rw (← (c .before .before .before .before .before .before .pre .0 .deal .worth)) (c .settle-board .ensures))))
+    (λ c. rw (c .before .before .enum-told2 .given .1, c .before .before .before .before .enum-told .given .1, c .settle-board .ensures, c .before .before .before .before .before .before .pre .0 .deal .worth, c .before .if1 .taken))
     (λ c κs. search needs)
     (λ c. search needs)
     (λ c κs. search (needs, money))
     (λ c. search needs)
     (λ c κs. search (needs, money))
-    (λ c. rw (c .before .before .enum-told2 .given .1, c .before .before .before .before .enum-told .given .1) (pick-false _ _ _ _ (c .before .if1 .left) (rw (← (c .before .before .before .before .before .before .pre .0 .deal .worth)) (c .settle-receipts .ensures))))
+    (λ c. rw (c .before .before .enum-told2 .given .1, c .before .before .before .before .enum-told .given .1, c .settle-receipts .ensures, c .before .before .before .before .before .before .pre .0 .deal .worth, c .before .if1 .left))
     (λ c. rw (c .before .before .before .before .enum-told .given .1, c .before .before .y .given .1) (c .settle-ended .ensures))
     (λ c. rw (c .before .before .x .given .1) (c .settle-ended2 .ensures ∙ settled-fault _ _ _ _ _)))

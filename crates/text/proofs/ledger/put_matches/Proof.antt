@@ -21,19 +21,12 @@ put-matches-spec =
     μ-loop
     (λ c. search needs)
     (λ c κs. search needs)
-    (λ c. record { within = search needs; room = search needs; put = put-none _ _; long = search needs })
+    (λ c. search (needs, put-none))
     (λ c. search needs)
     (λ c. search needs)
     (λ c κs. search needs)
     (λ c. search needs)
     (λ c. search needs)
-    (λ c. let l = c .before .before .before .before .before .before .loop in
-    record {
-      within = search needs;
-      room = search needs;
-      put = rows-more _ (l .i) (l .inv .put) (c .before .before .put-match .ensures .0);
-      long = search needs;
-    })
+    (λ c. search (needs, rows-more))
     (λ c. search needs)
-    (λ c. let l = c .before .loop in
-    (rows-all _ (l .i) _ (l .inv .within) (c .loop-test .left) (c .before .before .before .before .put-heading .ensures .0) (l .inv .put), search needs)))
+    (λ c. search (needs, rows-all)))

@@ -2,9 +2,7 @@
 -- The measure is how many bytes are to come. Assumes nothing.
 use Prim.Native.Nat.{_+_, _-_, _≤_}
 use mathlib.Core.Path.{_≡_, refl}
-use native.Mathlib.Omega.{arith}
 use borrow.Author.Needs.{needs}
-use denote.Ref.{now}
 use lib.ListN.{length, drop}
 use Rattle.text.specs.Lines.{line-length}
 use Rattle.text.proofs.Cutting.{length-out, length-stop, length-more}
@@ -26,10 +24,8 @@ line-end-spec =
     (λ c. (search needs, refl))
     (λ c. search needs)
     (λ c. search needs)
-    (λ c. let m = c .before .before .before in
-    omega (arith, m .loop .inv .1, length-stop (now (m .before .args .s)) (m .loop .i) (c .before .before .loop-test .taken) (c .if1 .taken)))
+    (λ c. search (needs, length-stop))
     (λ c. search needs)
     (λ c. search needs)
-    (λ c. let m = c .before .before .before in
-    (search needs, omega (arith, m .loop .inv .1, length-more (now (m .before .args .s)) (m .loop .i) (c .before .before .loop-test .taken) (c .if1 .left))))
-    (λ c. let m = c .before in omega (arith, m .loop .inv .1, length-out (now (m .before .args .s)) (m .loop .i) (c .loop-test .left))))
+    (λ c. search (needs, length-more))
+    (λ c. search (needs, length-out)))

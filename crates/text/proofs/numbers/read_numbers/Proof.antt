@@ -1,7 +1,6 @@
 -- `read_numbers` meets its contract. The loop's invariant: the line's numbers are what the bytes to come make of those read so far.
 -- The measure is how many bytes are to come. Assumes nothing.
 use Prim.Native.Nat.{_-_, _<_}
-use mathlib.Core.Path.{_∙_, sym, refl}
 use native.Mathlib.Omega.{arith}
 use borrow.Author.Needs.{needs}
 use denote.Ref.{now}
@@ -20,17 +19,11 @@ abbrev μ-loop : tie.MeasureT-loop
 -- where the byte is a digit that the number takes
 digit : (c : tie.Then2 Inv-loop μ-loop) → let m = c .before .before .before .before .before .before in
     Digit (getD (now (m .before .before .args .line)) (m .loop .i) 0) (m .loop .digits) (m .loop .value)
-digit c =
-    let m = c .before .before .before in
-    read-few (m .before .before .before .loop .inv) (m .before .before .loop-test .taken) (sym (m .is-digit .ensures) ∙ c .before .before .if1 .taken)
-    (sym (c .before .takes-digit .ensures) ∙ c .if2 .taken)
+digit c = search (needs, read-few)
 
 -- where the byte ends a number
 fewer : (c : tie.Then3 Inv-loop μ-loop) → c .before .before .before .before .before .before .loop .count < 8
-fewer c =
-    let m = c .before .before .before in
-    read-fewer (m .before .before .before .loop .inv) (m .before .before .loop-test .taken) (sym (m .is-digit .ensures) ∙ c .before .before .if1 .left)
-    (sym (c .before .ends-number .ensures) ∙ c .if3 .taken)
+fewer c = search (needs, read-fewer)
 
 pub read-numbers-spec : {M : Type 1} → statement M
 unfolding numbers
@@ -39,7 +32,7 @@ read-numbers-spec =
     (tie.spec
     Inv-loop
     μ-loop
-    (λ c. record { within = search needs; few = search needs; small = omega arith; most = search needs; long = refl; on = refl })
+    (λ c. search needs)
     (λ c. search needs)
     (λ c κs. search needs)
     (λ c κs. search needs)
@@ -50,39 +43,22 @@ read-numbers-spec =
     (λ c. omega (arith, digit c))
     (λ c. search needs)
     (λ c. search needs)
-    (λ c. let m = c .before .before .before in
-    read-digit (m .before .before .before .loop .inv) (m .before .before .loop-test .taken) (sym (m .is-digit .ensures) ∙ c .before .before .if1 .taken)
-    (sym (c .before .takes-digit .ensures) ∙ c .if2 .taken))
-    (λ c. let m = c .before .before .before in (
-      read-long (m .before .before .before .loop .inv) (m .before .before .loop-test .taken) (sym (m .is-digit .ensures) ∙ c .before .before .if1 .taken)
-          (sym (c .before .takes-digit .ensures) ∙ c .if2 .left),
-      search needs,
-    ))
+    (λ c. search (needs, read-digit (c .before .before .before .before .before .before .loop .inv)))
+    (λ c. search (needs, read-long))
     (λ c κs. search needs)
     (λ c. omega (arith, fewer c))
     (λ c. omega (arith, fewer c))
     (λ c. omega (arith, fewer c))
     (λ c. search needs)
     (λ c. search needs)
-    (λ c. let m = c .before .before .before .before in
-    read-space (m .before .before .before .loop .inv) (m .before .before .loop-test .taken) (sym (m .is-digit .ensures) ∙ c .before .before .before .if1 .left)
-    (sym (c .before .before .ends-number .ensures) ∙ c .before .if3 .taken) (c .if4 .taken))
+    (λ c. search (needs, read-space))
     (λ c κs. search needs)
     (λ c. let e = c .before .before .before in
     let m = e .before .before .before in (
-      read-end (m .before .before .before .loop .inv) (m .before .before .loop-test .taken) (sym (m .is-digit .ensures) ∙ e .before .before .if1 .left)
-          (sym (e .before .ends-number .ensures) ∙ e .if3 .taken) (c .before .before .if4 .left) (sym (c .before .ends-line .ensures) ∙ c .if5 .taken),
+      read-end (m .before .before .before .loop .inv) (m .before .before .loop-test .taken) (m .is-digit .ensures) (e .before .before .if1 .left)
+          (e .before .ends-number .ensures) (e .if3 .taken) (c .before .before .if4 .left) (c .before .ends-line .ensures) (c .if5 .taken),
       omega (arith, fewer e),
     ))
-    (λ c. let e = c .before .before .before in
-    let m = e .before .before .before in (
-      read-stop (m .before .before .before .loop .inv) (m .before .before .loop-test .taken) (sym (m .is-digit .ensures) ∙ e .before .before .if1 .left)
-          (sym (e .before .ends-number .ensures) ∙ e .if3 .taken) (c .before .before .if4 .left) (sym (c .before .ends-line .ensures) ∙ c .if5 .left),
-      search needs,
-    ))
-    (λ c. let m = c .before .before .before in (
-      read-none (m .before .before .before .loop .inv) (m .before .before .loop-test .taken) (sym (m .is-digit .ensures) ∙ c .before .before .if1 .left)
-          (sym (c .before .ends-number .ensures) ∙ c .if3 .left),
-      search needs,
-    ))
-    (λ c. (read-out (c .before .loop .inv) (c .loop-test .left), search needs)))
+    (λ c. search (needs, read-stop))
+    (λ c. search (needs, read-none))
+    (λ c. search (needs, read-out)))

@@ -20,17 +20,11 @@ put-bytes-spec =
     (tie.spec
     Inv-loop
     μ-loop
-    (λ c. record { within = search needs; room = search needs; put = put-none _ _; long = search needs })
+    (λ c. search (needs, put-none))
     (λ c. search needs)
     (λ c κs. search needs)
     (λ c. search needs)
     (λ c. search needs)
-    (λ c. let l = c .before .before .before .before .before .before in
-    record {
-      within = search needs;
-      room = search needs;
-      put = put-one (now (l .before .before .before .args .src)) (l .loop .i) (search needs) (l .loop .inv .put) (c .before .before .put-byte .ensures);
-      long = search needs;
-    })
+    (λ c. search (needs, put-one))
     (λ c. search needs)
     (λ c. rw (← take-all (c .before .loop .i) (now (c .before .before .before .before .args .src)) (c .loop-test .left)) (c .before .loop .inv .put)))

@@ -9,8 +9,6 @@ pub put-number-spec : {M : Type 1} → statement M
 put-number-spec =
     tie.close
     (tie.spec
-    (λ c κs. let s = c .before .before in omega (arith, digits-64 (s .args .n) (s .fits .n .fits), s .pre))
+    (λ c κs. omega (arith, digits-64 _ (c .before .before .fits .n .fits)))
     (λ c. search needs)
-    (λ c. let s = c .before .before .before .before .before in
-    let p = c .before .before .put-digits .ensures in
-    (p, omega (arith, p .next, digits-64 (s .args .n) (s .fits .n .fits)))))
+    (λ c. (search needs, omega (arith, digits-64 _ (c .before .before .before .before .before .fits .n .fits)))))

@@ -22,19 +22,13 @@ put-rest-spec =
     (tie.spec
     Inv-loop
     μ-loop
-    (λ c. record { within = search needs; room = search needs; put = put-none _ _; long = search needs })
+    (λ c. search (needs, put-none))
     (λ c. search needs)
     (λ c. search needs)
     (λ c κs. search needs)
     (λ c. search needs)
     (λ c. search needs)
-    (λ c. let l = c .before .before .before .before .before .before in
-    record {
-      within = search needs;
-      room = search needs;
-      put = spaced-more (now (l .before .before .before .args .ns)) (l .loop .i) (search needs) (l .loop .inv .put) (c .before .before .put-next .ensures .0);
-      long = search needs;
-    })
+    (λ c. search (needs, spaced-more))
     (λ c κs. search needs)
     (λ c. search needs)
     (λ c. let l = c .before .before .before .before .before in
