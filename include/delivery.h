@@ -9,7 +9,7 @@
 /* Room for the output of every session. */
 #define DELIVERY_ROOM 829611
 
-/* Runs the session of input's bytes and writes its output from the start of output; returns how many bytes it wrote.
+/* Runs the session of input's bytes and writes its output from the start of output, where later bytes stay as they were; returns how many bytes it wrote.
    An output of less than DELIVERY_ROOM bytes is refused: 0 is returned and nothing is written. An input above 65,536 bytes,
    and an empty one, print `no 26`. The two buffers must not overlap. */
 size_t delivery_session(const uint8_t *input, size_t input_length, uint8_t *output, size_t output_length);

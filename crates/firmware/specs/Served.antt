@@ -7,6 +7,6 @@ use Rattle.session.specs.Session.{room, Delivered}
 
 -- the buffer before and after, and the number of bytes
 pub record Served (input before out : List ℕ) (r : ℕ) : Type 0 where
-  pub enough : room ≤ length before → Delivered input out r
+  pub enough : room ≤ length before → Delivered input before out r
   -- too short: 0, and nothing is written
   pub short : length before < room → ((r ≡ 0) × (out ≡ before))

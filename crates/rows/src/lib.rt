@@ -1,4 +1,4 @@
-// One row by value: an account, a receipt or a match, new, with one thing changed, or asked one thing. A row's narrow fields are cast here only.
+// One row by value: an account, a receipt or a match, new, with one thing changed, or asked one thing. Numbers are narrowed to a row's fields here only.
 ghost use mathlib.Core.Path.{_≡_};
 ghost use Prim.Native.Nat.{_≤_, _<_, _+_};
 ghost use lib.Dec.{eqb, ltb};

@@ -66,7 +66,7 @@ demanded (l ∷ ls) = go (opening-line-of l)
     go (OpeningLine.Open kind t r p) = λ a. demand-3 kind t r p a _
 
 -- who wrote a session's output from the start has delivered it
-pub delivered : {s x out bytes : List ℕ} {r : ℕ} → session s ≡ bytes → Put x out 0 r bytes → Delivered s out r
+pub delivered : {s x out bytes : List ℕ} {r : ℕ} → session s ≡ bytes → Put x out 0 r bytes → Delivered s x out r
 delivered {s} {x} {out} {bytes} {r} e p =
     let n : length (take r out) ≡ r = ap length (p .text) ∙ omega (arith, p .next) in
-    record { within = omega (arith, length-take r out); counted = sym n; text = p .text ∙ sym e; demanded = demanded (lines s) }
+    record { within = omega (arith, length-take r out); counted = sym n; text = p .text ∙ sym e; kept = p .kept; demanded = demanded (lines s) }

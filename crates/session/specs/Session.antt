@@ -4,7 +4,7 @@ use mathlib.Core.Bool.{true}
 use mathlib.Core.List.{List, [], _∷_, _++_}
 use Prim.Native.Nat.{ℕ, _≤_}
 use lib.Dec.{ltb}
-use lib.ListN.{length, take}
+use lib.ListN.{length, take, drop}
 use Rattle.coal.specs.Choice.{pick}
 use Rattle.book.specs.declared.Book.{Book}
 use Rattle.book.specs.declared.Answer.{Answer}
@@ -82,9 +82,10 @@ Demanded (l ∷ ls) = Opened (opening-line-of l) ls
 abbrev pub room : ℕ
 room = 829_611
 
--- the first r bytes of the output are the session's; and demand 3 holds of the calls that it ran
-pub record Delivered (input out : List ℕ) (r : ℕ) : Type 0 where
+-- the first r bytes of the output are the session's, and those after them are as before; and demand 3 holds of the calls that it ran
+pub record Delivered (input before out : List ℕ) (r : ℕ) : Type 0 where
   pub within : r ≤ length out
   pub counted : r ≡ length (take r out)
   pub text : take r out ≡ session input
+  pub kept : drop r out ≡ drop r before
   pub demanded : Demanded (lines input)

@@ -99,7 +99,7 @@ fn start(
 // "It reads standard input": the output of a session, for every input, written from the start of `out`; how many bytes it has.
 pub fn session(input: &[u8], out: &mut [u8]) -> usize
     requires { ⌜ room ≤ length (now out) ⌝ }
-    ensures { λ r. ⌜ Delivered (now (input .entry)) (now (out .exit)) r ⌝ }
+    ensures { λ r. ⌜ Delivered (now (input .entry)) (now (out .entry)) (now (out .exit)) r ⌝ }
 {
     let n = input.len();
     if 65_536 < n {

@@ -6,8 +6,8 @@ use native.Mathlib.Numerals.{add-one}
 use mathlib.Core.Path.{_≡_, refl, sym, _∙_}
 use mathlib.Core.List.{List, [], _∷_, _++_, append-assoc, append-nil}
 use lib.Dec.{ltb}
-use lib.ListN.{length, take, getD, length-append}
-use lib.Seq.{take-suc}
+use lib.ListN.{length, take, drop, getD, length-append}
+use lib.Seq.{take-suc, drop-drop}
 use borrow.Author.Tests.{lt-ltb, le-ltb}
 use Rattle.coal.specs.Choice.{pick}
 use Rattle.book.specs.laws.Counting.{by-pick}
@@ -24,11 +24,12 @@ pub record Written (most : ℕ) (text : ℕ → List ℕ) (n : ℕ) (out₀ out 
 -- two writings, one after the other
 pub put-then : {a b c x y : List ℕ} {i j k : ℕ} → Put a b i j x → Put b c j k y → Put a c i k (x ++ y)
 put-then {a} {b} {c} {x} {y} {i} {j} {k} p q =
-    record { next = simp length-append (omega arith); text = q .text ∙ rw (p .text, append-assoc) }
+    let past : drop k b ≡ drop k a = rw (q .next, ← (drop-drop (length y) j b), p .kept, drop-drop) in
+    record { next = simp length-append (omega arith); text = q .text ∙ rw (p .text, append-assoc); kept = q .kept ∙ past }
 
 -- nothing is written
 pub put-none : (a : List ℕ) (i : ℕ) → Put a a i i []
-put-none a i = record { next = omega arith; text = sym (append-nil (take i a)) }
+put-none a i = record { next = omega arith; text = sym (append-nil (take i a)); kept = refl }
 
 -- one byte more of a list
 pub put-one : {a b c : List ℕ} {i j k : ℕ} (s : List ℕ) (n : ℕ) → n < length s → Put a b i j (take n s) → Put b c j k (getD s n 0 ∷ []) → Put a c i k (take (n + 1) s)

@@ -4,16 +4,17 @@ use mathlib.Core.List.{List, [], _∷_, _++_}
 use Prim.Native.Nat.{ℕ, zero, suc, _+_, _/_, _%_}
 use lib.Dec.{ltb}
 use lib.IntN.{ℤ, pos, negsuc}
-use lib.ListN.{length, take}
+use lib.ListN.{length, take, drop}
 use Rattle.coal.specs.Choice.{pick}
 use Rattle.text.specs.Text.{bytes}
 use Rattle.book.specs.declared.Answer.{Answer}
 use Rattle.book.specs.Answers.{is-accepted, answer-values}
 
--- from place at to place r the bytes were written, and what stood before at still stands there
+-- from place at to place r the bytes were written; what stood before at still stands there, and so does what stood from r on
 pub record Put (before after : List ℕ) (at r : ℕ) (bytes : List ℕ) : Type 0 where
   pub next : r ≡ at + length bytes
   pub text : take r after ≡ take at before ++ bytes
+  pub kept : drop r after ≡ drop r before
 
 -- the last of n's digits, at most k + 1 of them
 unfoldable pub last-digits : ℕ → ℕ → List ℕ

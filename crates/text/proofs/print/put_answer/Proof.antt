@@ -1,4 +1,5 @@
 -- `put_answer` meets its contract: a word and a number, by the answer's case. Assumes nothing.
+use native.Mathlib.Omega.{arith}
 use borrow.Author.Needs.{needs}
 use Rattle.text.proofs.print.put_answer.Statement.{statement}
 use Rattle.text.proofs.print.put_answer.Tie as tie
@@ -14,6 +15,6 @@ put-answer-spec =
     (λ c. search needs)
     (λ c κs. search needs)
     (λ c. search needs)
-    (λ c. search (needs, c .before .before .before .before .before .before .answer .given .1))
+    (λ c. rw (c .before .before .before .before .before .before .answer .given .1) (c .before .before .put-heading .ensures .0, omega (arith, c .before .before .put-heading .ensures .1)))
     (λ c. search needs)
-    (λ c. search (needs, c .before .before .before .before .before .before .answer2 .given .1)))
+    (λ c. rw (c .before .before .before .before .before .before .answer2 .given .1) (c .before .before .put-heading2 .ensures .0, omega (arith, c .before .before .put-heading2 .ensures .1))))
