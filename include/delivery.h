@@ -1,4 +1,4 @@
-/* The delivery book of one contract month: one session from a buffer to a buffer.
+/* The delivery book of one contract month: one session from a buffer to a buffer, or the page of the book after it.
    Link with target/staticlib/libfirmware.a, which `rt staticlib firmware` writes. */
 #ifndef DELIVERY_H
 #define DELIVERY_H
@@ -13,5 +13,13 @@
    An output of less than DELIVERY_ROOM bytes is refused: 0 is returned and nothing is written. An input above 65,536 bytes,
    and an empty one, print `no 26`. The two buffers must not overlap. */
 size_t delivery_session(const uint8_t *input, size_t input_length, uint8_t *output, size_t output_length);
+
+/* Room for every page: 4 + 32 + 256 + 128 lines of 41 bytes. */
+#define DELIVERY_PAGE_ROOM 17220
+
+/* Runs the session of input's bytes and writes the ledger page of the book after it, or `no n` where its line one is refused, from the start of output,
+   where later bytes stay as they were; returns how many bytes it wrote. An output that is too short for them is refused: 0 is returned and nothing is
+   written. The two buffers must not overlap. */
+size_t delivery_page(const uint8_t *input, size_t input_length, uint8_t *output, size_t output_length);
 
 #endif

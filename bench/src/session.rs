@@ -1,5 +1,5 @@
-//! The session program: from the bytes of the input to the bytes of the output.
-use crate::machine::{Book, Side, Stage, State};
+//! The session program: from the bytes of the input to the bytes of the output, or to the page of the book after it.
+use crate::machine::{Answer, Book, Side, Stage, State};
 use std::io::Write;
 
 const LARGEST: usize = 65_536;
@@ -37,6 +37,16 @@ fn numbers(line: &[u8], values: &mut [u64; 8]) -> Option<usize> {
     Some(count)
 }
 
+fn stage(s: Stage) -> u64 {
+    match s {
+        Stage::Paired => 0,
+        Stage::Prepaid => 1,
+        Stage::Held => 2,
+        Stage::Closed => 3,
+        Stage::Ended => 4,
+    }
+}
+
 fn ledger(book: &Book, out: &mut Vec<u8>) {
     let side = |s: Side| match s {
         Side::Flat => 0,
@@ -47,13 +57,6 @@ fn ledger(book: &Book, out: &mut Vec<u8>) {
         State::Free => 0,
         State::Frozen(_) => 1,
         State::Struck => 2,
-    };
-    let stage = |s: Stage| match s {
-        Stage::Paired => 0,
-        Stage::Prepaid => 1,
-        Stage::Held => 2,
-        Stage::Closed => 3,
-        Stage::Ended => 4,
     };
     writeln!(out, "accounts {}", book.accounts.len()).unwrap();
     for (k, a) in book.accounts.iter().enumerate() {
@@ -70,12 +73,45 @@ fn ledger(book: &Book, out: &mut Vec<u8>) {
     writeln!(out, "fund {}", book.fund).unwrap();
 }
 
-/// The whole output of a session; answers how many bytes it has.
-pub fn run(input: &[u8], out: &mut Vec<u8>) -> usize {
-    out.clear();
+/// Fen in yuan with two decimals, and a minus sign where due.
+fn yuan(cash: i128) -> String {
+    let fen = cash.unsigned_abs();
+    format!("{}{}.{:02}", if cash < 0 { "-" } else { "" }, fen / 100, fen % 100)
+}
+
+/// The ledger page: lines of 40 characters and a newline.
+fn ledger_page(book: &Book, out: &mut Vec<u8>) {
+    let side = |s: Side| match s {
+        Side::Flat => "none",
+        Side::Long => "long",
+        Side::Short => "short",
+    };
+    let state = |s: State| match s {
+        State::Free => "free",
+        State::Frozen(_) => "frozen",
+        State::Struck => "struck",
+    };
+    let mut line = |text: String| writeln!(out, "{:<40}", text).unwrap();
+    line(format!("accounts {}", book.accounts.len()));
+    for (k, a) in book.accounts.iter().enumerate() {
+        line(format!("{:>3}{:>22}{:>7}{:>8}", k, yuan(a.cash), side(a.side), a.units));
+    }
+    line(format!("receipts {}", book.receipts.len()));
+    for (i, r) in book.receipts.iter().enumerate() {
+        line(format!("{:>4}{:>4}{:>12}{:>20}", i, r.owner, if r.bonded { "bonded" } else { "ordinary" }, state(r.state)));
+    }
+    line(format!("matches {}", book.matches.len()));
+    for (j, m) in book.matches.iter().enumerate() {
+        line(format!("{:>3}{:>3}{:>3}{:>5}{:>8}{:>2}{:>16}", j, m.buyer, m.seller, m.units, m.price, stage(m.stage), m.held));
+    }
+    line(format!("fund {}", book.fund));
+}
+
+/// Runs the lines of a session and hands each answer to `tell`: the book after them, or none where line one is refused.
+fn play(input: &[u8], mut tell: impl FnMut(Answer)) -> Option<Book> {
     if input.is_empty() || input.len() > LARGEST {
-        out.extend_from_slice(b"no 26\n");
-        return out.len();
+        tell(Err(26));
+        return None;
     }
     let mut lines = input.split_inclusive(|&c| c == b'\n');
     let mut values = [0u64; 8];
@@ -86,21 +122,45 @@ pub fn run(input: &[u8], out: &mut Vec<u8>) -> usize {
     let mut book = match opened {
         Ok(book) => book,
         Err(n) => {
-            writeln!(out, "no {}", n).unwrap();
-            return out.len();
+            tell(Err(n));
+            return None;
         }
     };
-    out.extend_from_slice(b"ok 0\n");
+    tell(Ok(0));
     for line in lines {
-        let answer = match numbers(line, &mut values) {
+        tell(match numbers(line, &mut values) {
             Some(count) if values[0] != 0 => book.call(values[0], &values[1..count]),
             _ => Err(26),
-        };
-        match answer {
-            Ok(n) => writeln!(out, "ok {}", n).unwrap(),
-            Err(n) => writeln!(out, "no {}", n).unwrap(),
-        }
+        });
     }
-    ledger(&book, out);
+    Some(book)
+}
+
+fn answer_line(answer: Answer, out: &mut Vec<u8>) {
+    match answer {
+        Ok(n) => writeln!(out, "ok {}", n).unwrap(),
+        Err(n) => writeln!(out, "no {}", n).unwrap(),
+    }
+}
+
+/// The whole output of a session; answers how many bytes it has.
+pub fn run(input: &[u8], out: &mut Vec<u8>) -> usize {
+    out.clear();
+    if let Some(book) = play(input, |answer| answer_line(answer, out)) {
+        ledger(&book, out);
+    }
+    out.len()
+}
+
+/// The page of the book after a session, or line one's refusal; answers how many bytes it has.
+pub fn page(input: &[u8], out: &mut Vec<u8>) -> usize {
+    out.clear();
+    let mut first = None;
+    match play(input, |answer| {
+        first.get_or_insert(answer);
+    }) {
+        Some(book) => ledger_page(&book, out),
+        None => answer_line(first.expect("line one is answered"), out),
+    }
     out.len()
 }

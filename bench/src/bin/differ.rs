@@ -1,10 +1,24 @@
-//! Runs the proved book and the plain one over the same sessions and compares every byte: differ [SESSIONS]
+//! Runs the proved book and the plain one over the same sessions and compares every byte, of the sessions and of the pages: differ [SESSIONS]
 use bench::generate::{damage, session, short_session, Random};
+
+/// Whether the page is written into a buffer of its own length, and into longer ones, whose later bytes stay, and not into a shorter one, which stays as it was.
+fn page_agrees(text: &[u8], page: &[u8]) -> bool {
+    let n = page.len();
+    [0, 1, n / 2, n - 1, n, n + 1, n + 41, bench::proved::PAGE_ROOM].iter().all(|&room| {
+        let mut lent = vec![7u8; room];
+        let written = bench::proved::lend(text, &mut lent);
+        if room < n {
+            written == 0 && lent.iter().all(|&c| c == 7)
+        } else {
+            written == n && lent[..n] == *page && lent[n..].iter().all(|&c| c == 7)
+        }
+    })
+}
 
 fn main() {
     let count: u64 = std::env::args().nth(1).and_then(|a| a.parse().ok()).unwrap_or(20_000);
-    let (mut ours, mut plain) = (Vec::new(), Vec::new());
-    let (mut bytes, mut lines, mut accepted) = (0usize, 0usize, 0usize);
+    let (mut ours, mut plain, mut page) = (Vec::new(), Vec::new(), Vec::new());
+    let (mut bytes, mut lines, mut accepted, mut page_lines) = (0usize, 0usize, 0usize, 0usize);
     for seed in 0..count {
         let mut r = Random::new(seed ^ 0x5EED);
         let calls = match r.below(10) {
@@ -23,14 +37,16 @@ fn main() {
         }
         let n = bench::proved::run(&text, &mut ours);
         let m = bench::session::run(&text, &mut plain);
-        if ours[..n] != plain[..m] {
+        bench::session::page(&text, &mut page);
+        if ours[..n] != plain[..m] || !page_agrees(&text, &page) {
             std::fs::write("differs.in", &text).expect("written");
             println!("session {} differs: see differs.in", seed);
             std::process::exit(1);
         }
         bytes += text.len();
+        page_lines += page.iter().filter(|&&c| c == b'\n').count();
         lines += plain.iter().filter(|&&c| c == b'\n').count();
         accepted += plain.split(|&c| c == b'\n').filter(|l| l.starts_with(b"ok ")).count();
     }
-    println!("{} sessions, {} bytes in, {} lines out, {} accepted: every byte the same", count, bytes, lines, accepted);
+    println!("{} sessions, {} bytes in, {} lines out, {} accepted, {} lines of pages: every byte the same", count, bytes, lines, accepted, page_lines);
 }

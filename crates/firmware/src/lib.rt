@@ -1,4 +1,5 @@
 // The interface for C: include/delivery.h declares what is exported here.
+ghost use Rattle.session.specs.Paging.{Paged};
 ghost use Rattle.firmware.specs.Served.{Served};
 
 // A session from a buffer to a buffer: how many bytes were written, or 0, with nothing written, where the output has less room than every session needs.
@@ -10,4 +11,12 @@ pub extern "C" fn delivery_session(input: &[u8], out: &mut [u8]) -> usize
         return 0;
     }
     session::session(input, out)
+}
+
+// The ledger page of the book after a session, or `no n` where its line one is refused: how many bytes were written, or 0, with nothing written, where the output is too short.
+#[no_mangle]
+pub extern "C" fn delivery_page(input: &[u8], out: &mut [u8]) -> usize
+    ensures { λ r. ⌜ Paged (now (input .entry)) (now (out .entry)) (now (out .exit)) r ⌝ }
+{
+    session::page(input, out)
 }

@@ -1,4 +1,4 @@
-// Replays stored sessions and compares every byte: the arguments are the names of an input and of its output, in turn.
+// Replays stored sessions and compares every byte: the arguments are the names of an input and of its output, in turn; an output `NAME.page` is the page of the book after the session.
 ghost use mathlib.Core.Path.{_≡_};
 ghost use Prim.Native.Nat.{_+_, _^_, _<_, _≤_};
 ghost use lib.ListN.{length};
@@ -30,14 +30,36 @@ fn load(name: &[u8], buf: &mut [u8]) -> usize
     n
 }
 
-// Whether the session of an input is the output that is stored for it.
+// Whether a name is that of a page.
+fn is_page(name: &[u8]) -> bool {
+    let n = name.len();
+    if n < 5 {
+        return false;
+    }
+    let from = n - 5;
+    check::same(&name[from..], b".page")
+}
+
+// What is printed of a session, or its page: how many bytes it has.
+fn printed(input: &[u8], paged: bool, out: &mut [u8]) -> usize
+    requires { ⌜ 829611 ≤ length (now out) ⌝ }
+    ensures { λ r. ⌜ Counts r (now (out .exit)) ⌝ }
+{
+    if paged {
+        session::page(input, out)
+    } else {
+        session::session(input, out)
+    }
+}
+
+// Whether the session of an input gives the output that is stored for it.
 fn agrees(input_name: &[u8], output_name: &[u8]) -> bool {
     let mut input = input_buffer();
     let n = load(input_name, &mut input);
     let mut stored = output_buffer();
     let k = load(output_name, &mut stored);
     let mut out = output_buffer();
-    let r = session::session(&input[..n], &mut out);
+    let r = printed(&input[..n], is_page(output_name), &mut out);
     check::same(&out[..r], &stored[..k])
 }
 
@@ -65,5 +87,5 @@ fn main() {
         agreed += replayed(2 * j + 1);
     }
     io::print_decimal(1, agreed);
-    io::write_all(1, b" sessions agree\n");
+    io::write_all(1, b" outputs agree\n");
 }

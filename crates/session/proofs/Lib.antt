@@ -1,2 +1,3 @@
 pub mod Running
 pub mod Starting
+pub mod Paging

@@ -1,12 +1,17 @@
-// A session: from the bytes of its input to the bytes of its output.
+// A session: from the bytes of its input to the bytes of its output, to the book after it, or to that book's page.
+ghost use mathlib.Core.Bool.{true};
 ghost use mathlib.Core.Path.{_≡_};
+ghost use mathlib.Core.List.{[]};
 ghost use Prim.Native.Nat.{_+_, _*_, _≤_};
-ghost use lib.ListN.{length, take, drop};
+ghost use lib.ListN.{length, drop};
+ghost use Rattle.coal.specs.Choice.{pick};
+ghost use Rattle.book.specs.Answers.{refuse};
+ghost use Rattle.book.specs.Opening.{no-book};
 ghost use Rattle.book.specs.Lists.{Reached};
 ghost use Rattle.text.specs.Lines.{lines};
-ghost use Rattle.text.specs.declared.lines.OpeningLine.{OpeningLine};
-ghost use Rattle.text.specs.Print.{Put};
-ghost use Rattle.session.specs.Session.{told, opened, room, Delivered};
+ghost use Rattle.text.specs.Print.{Put, answer-line};
+ghost use Rattle.session.specs.Session.{Followed, line-one, outcome, room, Delivered};
+ghost use Rattle.session.specs.Paging.{Paged};
 use book::Answer;
 use book::Book;
 use book::Call;
@@ -14,13 +19,31 @@ use book::Outcome;
 use text::Line;
 use text::OpeningLine;
 
-// The answers to the lines from a place on, and the ledger after them.
-fn run(book: Book, s: &[u8], from: usize, out: &mut [u8], at: usize) -> usize
+// The book after some lines of a session, and the place after what was printed.
+struct Ran {
+    book: Book,
+    at: usize,
+}
+
+// An answer's line, where it is wanted.
+fn put_reply(out: &mut [u8], at: usize, answer: Answer, wanted: bool) -> usize
+    requires { ⌜ (wanted ≡ true → at + 24 ≤ length (now out)) ⌝ }
+    ensures { λ r. ⌜ Put (now (out .entry)) (now (out .exit)) at r (pick wanted (answer-line answer) []) × (r ≤ at + 24) ⌝ }
+{
+    if wanted {
+        text::put_answer(out, at, answer)
+    } else {
+        at
+    }
+}
+
+// The calls of the lines from a place on; their answers are printed where they are wanted.
+fn run(book: Book, s: &[u8], from: usize, out: &mut [u8], at: usize, wanted: bool) -> Ran
     requires { ⌜ Reached book ⌝ }
     requires { ⌜ from ≤ length (now s) ⌝ }
     requires { ⌜ at ≤ 12 * from + 24 ⌝ }
-    requires { ⌜ 12 * length (now s) + 43_179 ≤ length (now out) ⌝ }
-    ensures { λ r. ⌜ Put (now (out .entry)) (now (out .exit)) at r (told book (lines (drop from (now (s .entry))))) ⌝ }
+    requires { ⌜ (wanted ≡ true → 12 * length (now s) + 36 ≤ length (now out)) ⌝ }
+    ensures { λ r. ⌜ Followed (lines (drop from (now (s .entry)))) book wanted (now (out .entry)) (now (out .exit)) at (12 * length (now (s .entry)) + 24) r ⌝ }
 {
     let mut o = Outcome {
         answer: Answer::Accepted(0),
@@ -33,7 +56,7 @@ fn run(book: Book, s: &[u8], from: usize, out: &mut [u8], at: usize) -> usize
         let line = text::read_line(&s[i..e]);
         i = e;
         let Line::Run(call) = line else {
-            w = text::put_answer(out, w, Answer::Refused(26));
+            w = put_reply(out, w, Answer::Refused(26), wanted);
             continue;
         };
         // Each call's outcome takes the place of the last one.
@@ -68,45 +91,29 @@ fn run(book: Book, s: &[u8], from: usize, out: &mut [u8], at: usize) -> usize
             Call::Terminate { number, party } => o = settlement::terminate(o.book, number, party),
         }
         let answer = o.answer;
-        w = text::put_answer(out, w, answer);
+        w = put_reply(out, w, answer, wanted);
     }
-    text::put_ledger(out, w, o.book)
+    let book = o.book;
+    Ran { book, at: w }
 }
 
-// The opening of line one, its answer, and the rest of the session where it is accepted.
-fn start(
-    kind: u64,
-    tonnes: u64,
-    rate: u64,
-    price: u64,
-    s: &[u8],
-    from: usize,
-    out: &mut [u8],
-) -> usize
-    requires { ⌜ from ≤ length (now s) ⌝ }
-    requires { ⌜ 12 * length (now s) + 43_179 ≤ length (now out) ⌝ }
-    ensures { λ r. ⌜ Put (now (out .entry)) (now (out .exit)) 0 r (opened (OpeningLine.Open kind tonnes rate price) (lines (drop from (now (s .entry))))) ⌝ }
+// "26 a line not of the form": an input without an opening.
+fn no_opening() -> Outcome
+    ensures { λ r. ⌜ r ≡ refuse 26 no-book ⌝ }
 {
-    let o = accounts::opening(kind, tonnes, rate, price);
-    let answer = o.answer;
-    let w = text::put_answer(out, 0, answer);
-    match answer {
-        Answer::Accepted(_) => run(o.book, s, from, out, w),
-        Answer::Refused(_) => w,
+    let book = Book::fresh(false, 1, 0, 1);
+    Outcome {
+        answer: Answer::Refused(26),
+        book,
     }
 }
 
-// "It reads standard input": the output of a session, for every input, written from the start of `out`; how many bytes it has.
-pub fn session(input: &[u8], out: &mut [u8]) -> usize
-    requires { ⌜ room ≤ length (now out) ⌝ }
-    ensures { λ r. ⌜ Delivered (now (input .entry)) (now (out .entry)) (now (out .exit)) r ⌝ }
+// "Line one is `0 kind T R price`": its outcome.
+fn line_one(input: &[u8]) -> Outcome
+    ensures { λ r. ⌜ r ≡ line-one (now (input .entry)) ⌝ }
 {
-    let n = input.len();
-    if 65_536 < n {
-        return text::put_answer(out, 0, Answer::Refused(26));
-    }
-    if n == 0 {
-        return text::put_answer(out, 0, Answer::Refused(26));
+    if 65_536 < input.len() {
+        return no_opening();
     }
     let e = text::line_end(input, 0);
     let line = text::read_opening(&input[..e]);
@@ -117,7 +124,64 @@ pub fn session(input: &[u8], out: &mut [u8]) -> usize
         price,
     } = line
     else {
-        return text::put_answer(out, 0, Answer::Refused(26));
+        return no_opening();
     };
-    start(kind, tonnes, rate, price, input, e, out)
+    accounts::opening(kind, tonnes, rate, price)
+}
+
+// "It reads standard input": the output of a session, for every input, written from the start of `out`; how many bytes it has.
+pub fn session(input: &[u8], out: &mut [u8]) -> usize
+    requires { ⌜ room ≤ length (now out) ⌝ }
+    ensures { λ r. ⌜ Delivered (now (input .entry)) (now (out .entry)) (now (out .exit)) r ⌝ }
+{
+    let first = line_one(input);
+    let answer = first.answer;
+    let w = text::put_answer(out, 0, answer);
+    match answer {
+        Answer::Accepted(_) => {
+            let e = text::line_end(input, 0);
+            let ran = run(first.book, input, e, out, w, true);
+            text::put_ledger(out, ran.at, ran.book)
+        }
+        Answer::Refused(_) => w,
+    }
+}
+
+// Line one's answer and, where that is accepted, the book after the session, which prints nothing.
+fn outcome(input: &[u8]) -> Outcome
+    ensures { λ r. ⌜ r ≡ outcome (now (input .entry)) ⌝ }
+{
+    let first = line_one(input);
+    let answer = first.answer;
+    match answer {
+        Answer::Accepted(_) => {
+            let e = text::line_end(input, 0);
+            let mut unused = [0; 1];
+            let ran = run(first.book, input, e, &mut unused, 0, false);
+            let book = ran.book;
+            Outcome {
+                answer: Answer::Accepted(0),
+                book,
+            }
+        }
+        Answer::Refused(_) => first,
+    }
+}
+
+// What the page program prints, at the front of a lent buffer: how many bytes it has, or 0, with nothing written, where the buffer is too short.
+pub fn page(input: &[u8], out: &mut [u8]) -> usize
+    ensures { λ r. ⌜ Paged (now (input .entry)) (now (out .entry)) (now (out .exit)) r ⌝ }
+{
+    let o = outcome(input);
+    let answer = o.answer;
+    match answer {
+        Answer::Accepted(_) => {
+            let paged = text::put_page(out, o.book);
+            match paged {
+                Answer::Accepted(n) => n as usize,
+                Answer::Refused(_) => 0,
+            }
+        }
+        Answer::Refused(_) => text::lend_answer(out, answer),
+    }
 }

@@ -3,5 +3,8 @@ pub mod Calling
 pub mod Cutting
 pub mod Form
 pub mod Printing
+pub mod Aligning
+pub mod Columns
+pub mod Lent
 pub mod Signs
 pub mod Worked

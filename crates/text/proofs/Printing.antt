@@ -45,7 +45,7 @@ last-same zero (suc m) n h l = simp (lt-ltb n 10 (omega arith))
 last-same (suc k) zero n h l = simp (lt-ltb n 10 (omega arith))
 last-same (suc k) (suc m) n h l = rw (last-same k m (n / 10) (omega arith) (omega arith))
 
-digits-step : (n : ℕ) → digits n ≡ pick (ltb n 10) [] (digits (n / 10)) ++ ((48 + n % 10) ∷ [])
+pub digits-step : (n : ℕ) → digits n ≡ pick (ltb n 10) [] (digits (n / 10)) ++ ((48 + n % 10) ∷ [])
 unfolding digits last-digits
 digits-step zero = refl
 digits-step (suc n) = rw (last-same n (suc n / 10) (suc n / 10) (omega arith) (omega arith))
@@ -54,7 +54,7 @@ tenth : (n m : ℕ) → n < m * 10 → n / 10 < m
 tenth n m h = omega arith
 
 -- a number below 10 ^ (k + 1) has at most k + 1 digits
-digits-short : (k n : ℕ) → n < 10 ^ suc k → length (digits n) ≤ suc k
+pub digits-short : (k n : ℕ) → n < 10 ^ suc k → length (digits n) ≤ suc k
 digits-short zero n h = rw (digits-step n, lt-ltb n 10 h) (omega arith)
 digits-short (suc k) n h =
     rw (digits-step n, length-append)

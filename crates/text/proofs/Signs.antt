@@ -5,7 +5,7 @@ use native.Mathlib.Nat.{zero-add}
 use native.Mathlib.Numerals.{add-one}
 use mathlib.Core.Path.{_≡_, refl, sym, ap, _∙_}
 use mathlib.Core.Bool.{true, false, true≢false}
-use mathlib.Core.List.{[], _∷_, _++_}
+use mathlib.Core.List.{List, [], _∷_, _++_}
 use borrow.Author.Tests.{lt-ltb, ltb-true}
 use lib.Dec.{T}
 use lib.IntN.{ℤ, pos, negsuc, _+ℤ_, _-ℤ_, negℤ, natAbs}
@@ -13,7 +13,7 @@ use lib.Signed.{ltZ, nonNeg}
 use mir.Syntax.{w64}
 use mir.Val.{SFits, Fits, toZ, ofZ}
 use mir.ValLaws.{toZ-ofZ}
-use Rattle.text.specs.Print.{digits, signed}
+use Rattle.text.specs.Print.{with-sign}
 
 -- a number as it is kept in 64 bits and read again
 abbrev pub kept : ℤ → ℤ
@@ -43,7 +43,7 @@ pub record Below (z : ℤ) : Type 0 where
   pub opposite : SFits w64 (pos 0 -ℤ kept (kept z +ℤ pos 1))
   pub cast : T (nonNeg (kept (pos 0 -ℤ kept (kept z +ℤ pos 1)))) × Fits w64 (natAbs (kept (pos 0 -ℤ kept (kept z +ℤ pos 1))))
   pub size : Fits w64 (natAbs (kept (pos 0 -ℤ kept (kept z +ℤ pos 1))) + 1)
-  pub text : (45 ∷ []) ++ digits (natAbs (kept (pos 0 -ℤ kept (kept z +ℤ pos 1))) + 1) ≡ signed z
+  pub text : (f : ℕ → List ℕ) → (45 ∷ []) ++ f (natAbs (kept (pos 0 -ℤ kept (kept z +ℤ pos 1))) + 1) ≡ with-sign f z
 
 pub below : (z : ℤ) → SFits w64 z → ltZ (kept z) (pos 0) ≡ true → Below z
 below (pos n) f h = absurd (omega (arith, ltb-true n 0 (sym (ap (λ (z : ℤ). ltZ z (pos 0)) (toZ-ofZ w64 (pos n) f)) ∙ h)))
@@ -58,15 +58,15 @@ below (negsuc k) f h =
       opposite = fits-as b p;
       cast = rw c (tt, record { fits = omega arith });
       size = rw c (record { fits = omega arith });
-      text = rw (c, add-one k);
+      text = λ f. rw (c, add-one k);
     }
 
 pub record NotBelow (z : ℤ) : Type 0 where
   pub cast : T (nonNeg (kept z)) × Fits w64 (natAbs (kept z))
-  pub text : digits (natAbs (kept z)) ≡ signed z
+  pub text : (f : ℕ → List ℕ) → f (natAbs (kept z)) ≡ with-sign f z
 
 pub not-below : (z : ℤ) → SFits w64 z → ltZ (kept z) (pos 0) ≡ false → NotBelow z
 not-below (pos n) f h = let g : n < 2 ^ 63 = f .sfits in
     let e = toZ-ofZ w64 (pos n) f in
-    record { cast = rw e (tt, record { fits = omega arith }); text = rw e }
+    record { cast = rw e (tt, record { fits = omega arith }); text = λ f. rw e }
 not-below (negsuc n) f h = absurd (true≢false (sym (ap (λ (z : ℤ). ltZ z (pos 0)) (toZ-ofZ w64 (negsuc n) f)) ∙ h))

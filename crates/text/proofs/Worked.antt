@@ -1,18 +1,19 @@
--- Document 01's worked session, computed: its lines read and its ledger printed; and lines not of the form. Assumes nothing.
+-- Document 01's worked session, computed: its lines read, its ledger and its page printed; and lines not of the form. Assumes nothing.
 use Prim.Native.Nat.{ℕ}
 use mathlib.Core.Path.{_≡_, refl}
 use mathlib.Core.Bool.{true, false}
-use mathlib.Core.List.{[], _∷_, map}
+use mathlib.Core.List.{[], _∷_, _++_, map}
 use lib.IntN.{pos, negsuc}
 use lib.ListN.{replicate}
 use Rattle.book.specs.declared.Heat.{Heat}
 use Rattle.book.specs.declared.ReceiptState.{ReceiptState}
+use Rattle.book.specs.declared.Side.{Side}
 use Rattle.book.specs.declared.Stage.{Stage}
 use Rattle.book.specs.declared.Match.{Match}
 use Rattle.book.specs.declared.Book.{Book}
 use Rattle.book.specs.declared.Answer.{Answer}
 use Rattle.book.specs.declared.Call.{Call}
-use Rattle.book.specs.Rows.{blank-account, blank-receipt, blank-match, with-cash}
+use Rattle.book.specs.Rows.{blank-account, blank-receipt, blank-match, with-cash, with-position}
 use Rattle.text.specs.declared.lines.Line.{Line}
 use Rattle.text.specs.declared.lines.OpeningLine.{OpeningLine}
 use Rattle.text.specs.Text.{bytes}
@@ -20,6 +21,7 @@ use Rattle.text.specs.Numbers.{numbers-on, numbers}
 use Rattle.text.specs.Lines.{lines, call-of, line-of, opening-of, opening-line-of}
 use Rattle.text.specs.Print.{digits, last-digits, spaced, signed, answer-line}
 use Rattle.text.specs.Ledger.{each, account-row, receipt-row, match-row, ledger}
+use Rattle.text.specs.Page.{right, padded, yuan, account-columns, receipt-columns, account-entry, receipt-entry, match-entry, page, lent, page-answer}
 
 opening-read : opening-line-of (bytes "0 0 5 20 600000\n") ≡ OpeningLine.Open 0 5 20 600_000
 unfolding numbers-on numbers opening-of opening-line-of
@@ -73,3 +75,27 @@ answers-printed = refl
 minus-printed : signed (negsuc 1_199) ≡ bytes "-1200"
 unfolding digits last-digits
 minus-printed = refl
+
+-- ---- the page of document 02's Job 1
+
+page-printed : page worked ≡ bytes "accounts 2                              \n  0              24000.00   none       0\n  1              40000.00   none       0\nreceipts 2                              \n   0   1      bonded                free\n   1   0    ordinary              frozen\nmatches 2                               \n  0  1  0    1  600000 2          600000\n  1  1  0    1  600000 0               0\nfund 0                                  \n"
+unfolding digits last-digits right padded yuan each account-entry receipt-entry match-entry page worked paired
+page-printed = refl
+
+-- five fen below zero, and the most that `Sound` lets an account come to below it, which fits the field
+cash-printed : map (λ z. account-columns 31 (with-cash (with-position blank-account Side.Short 1_000 0) z)) (negsuc 4 ∷ negsuc 132_255_999_999_999_999 ∷ []) ≡ bytes " 31                 -0.05  short    1000" ∷ bytes " 31  -1322560000000000.00  short    1000" ∷ []
+unfolding digits last-digits right yuan
+cash-printed = refl
+
+struck-printed : receipt-columns 255 (record { owner = 31; bonded = false; state = ReceiptState.Struck }) ≡ bytes " 255  31    ordinary              struck"
+unfolding digits last-digits right
+struck-printed = refl
+
+-- a buffer one byte short is refused and left; one of just the page's length is taken; bytes past the page stay
+page-limits : map (page-answer worked) (replicate 409 7 ∷ replicate 410 7 ∷ []) ≡ Answer.Refused 27 ∷ Answer.Accepted 410 ∷ []
+unfolding digits last-digits right padded yuan each account-entry receipt-entry match-entry page worked paired page-answer
+page-limits = refl
+
+page-stays : (lent (page worked) (replicate 409 7) ≡ replicate 409 7) × (lent (page worked) (replicate 412 7) ≡ page worked ++ (7 ∷ 7 ∷ []))
+unfolding digits last-digits right padded yuan each account-entry receipt-entry match-entry page worked paired lent
+page-stays = (refl, refl)

@@ -3,3 +3,4 @@ pub mod Numbers
 pub mod Lines
 pub mod Print
 pub mod Ledger
+pub mod Page

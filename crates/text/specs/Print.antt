@@ -27,10 +27,13 @@ last-digits (suc k) n =
 unfoldable pub digits : ℕ → List ℕ
 digits n = last-digits n n
 
--- "Cash below zero has a minus sign."
+-- a signed number as f prints a number: "Cash below zero has a minus sign."
+abbrev pub with-sign : (ℕ → List ℕ) → ℤ → List ℕ
+with-sign f (pos n) = f n
+with-sign f (negsuc n) = 45 ∷ f (suc n)
+
 abbrev pub signed : ℤ → List ℕ
-signed (pos n) = digits n
-signed (negsuc n) = 45 ∷ digits (suc n)
+signed z = with-sign digits z
 
 -- numbers, a space before each
 unfoldable pub spaced : List ℕ → List ℕ

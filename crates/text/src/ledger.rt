@@ -45,7 +45,7 @@ fn state_number(state: ReceiptState) -> u64
     }
 }
 
-fn stage_number(stage: Stage) -> u64
+pub fn stage_number(stage: Stage) -> u64
     ensures { λ r. ⌜ r ≡ stage-number stage ⌝ }
 {
     match stage {

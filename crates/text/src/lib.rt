@@ -2,6 +2,7 @@
 mod ledger;
 mod lines;
 mod numbers;
+mod page;
 mod print;
 
 pub use ledger::put_ledger;
@@ -10,4 +11,6 @@ pub use lines::OpeningLine;
 pub use lines::line_end;
 pub use lines::read_line;
 pub use lines::read_opening;
+pub use page::lend_answer;
+pub use page::put_page;
 pub use print::put_answer;

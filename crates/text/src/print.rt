@@ -28,7 +28,7 @@ pub fn put_bytes(out: &mut [u8], at: usize, src: &[u8]) -> usize
     w
 }
 
-fn last_digit(n: u64) -> u8
+pub fn last_digit(n: u64) -> u8
     ensures { λ r. ⌜ r ≡ 48 + n % 10 ⌝ }
 {
     48 + (n % 10) as u8
@@ -66,7 +66,7 @@ pub fn put_signed(out: &mut [u8], at: usize, z: i64) -> usize
 }
 
 // A space and a number.
-fn put_next(out: &mut [u8], at: usize, n: u64) -> usize
+pub fn put_next(out: &mut [u8], at: usize, n: u64) -> usize
     requires { ⌜ at + 21 ≤ length (now out) ⌝ }
     ensures { λ r. ⌜ Put (now (out .entry)) (now (out .exit)) at r ((32 ∷ []) ++ digits n) × (r ≤ at + 21) ⌝ }
 {

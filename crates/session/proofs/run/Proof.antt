@@ -1,13 +1,13 @@
--- `run` meets its contract: the loop goes line by line, and who writes what is told from there on has written all. Assumes nothing.
+-- `run` meets its contract: the loop goes line by line, and who writes the answers from there on has written them all. Assumes nothing.
 use mathlib.Core.Path.{_≡_, refl, sym, _∙_}
 use mathlib.Core.Logic.{⊎-elim}
-use Prim.Native.Nat.{_-_, _≤_, _<_}
+use mathlib.Core.Bool.{true}
+use Prim.Native.Nat.{_+_, _-_, _≤_, _<_}
 use native.Mathlib.Omega.{arith}
 use borrow.Author.Needs.{needs}
 use lib.ListN.{length}
 use denote.Ref.{now}
 use Rattle.book.specs.Calls.{step}
-use Rattle.book.specs.laws.Reaching.{sound}
 use Rattle.text.proofs.Cutting.{end-past, end-within}
 use Rattle.session.specs.Session.{reply}
 use Rattle.session.proofs.Running.{Running, turn, ended}
@@ -15,10 +15,10 @@ use Rattle.session.proofs.run.Statement.{statement}
 use Rattle.session.proofs.run.Tie as tie
 
 abbrev Inv-loop : tie.InvT-loop
-Inv-loop s from out₀ at o₀ i₀ w₀ out o i w = Running s (o₀ .book) from at out₀ out (o .book) i w
+Inv-loop s from out₀ at wanted o₀ i₀ w₀ out o i w = Running s (o₀ .book) wanted from at out₀ out (o .book) i w
 
 abbrev μ-loop : tie.MeasureT-loop
-μ-loop s from out₀ at o₀ i₀ w₀ out o i w = length s - i
+μ-loop s from out₀ at wanted o₀ i₀ w₀ out o i w = length s - i
 
 -- a line's end lies past its start and within the text
 past : (c : tie.After-line-end Inv-loop μ-loop) → c .before .before .loop .i < c .line-end .result
@@ -26,6 +26,10 @@ past c = end-past (now (c .before .before .before .before .before .args .s)) _ _
 
 inside : (c : tie.After-line-end Inv-loop μ-loop) → c .line-end .result ≤ length (now (c .before .before .before .before .before .args .s))
 inside c = end-within (now (c .before .before .before .before .before .args .s)) _ _ (c .before .loop-test .taken) (c .line-end .ensures)
+
+-- a wanted answer has room
+enough : (c : tie.In-loop Inv-loop μ-loop) → c .before .before .before .before .args .wanted ≡ true → c .before .loop .w + 24 ≤ length (c .before .loop .out)
+enough c h = let inv = c .before .loop .inv in omega (arith, c .before .before .before .before .pre .1 .1 .1 h, inv .room, inv .long, c .loop-test .taken)
 
 -- whichever call it is, the outcome is the machine's reply to the line
 replied : (c : tie.At-match2-came Inv-loop μ-loop) → c .match2 .o ≡ reply (c .before .before .before .before .before .before .before .before .loop .o .book) (c .before .before .before .before .read-line .result)
@@ -55,7 +59,7 @@ run-spec =
     (tie.spec
     Inv-loop
     μ-loop
-    (λ c. record { within = search needs; room = search needs; reached = search needs; long = refl; on = λ z r p. p })
+    (λ c. record { within = search needs; room = search needs; reached = search needs; long = refl; on = λ z r p. p; same = refl })
     (λ c κs. search needs)
     (λ c. omega (arith, past c))
     (λ c. omega (arith, past c, inside c))
@@ -63,13 +67,13 @@ run-spec =
     (λ c κs. search needs)
     (λ c. search needs)
     (λ c. search needs)
-    (λ c κs. search needs)
+    (λ c κs h. enough (c .before .before .before .before .before .before) h)
     (λ c. let d = c .before .before .before .before .before .before .before .before in omega (arith, past d, inside d))
     (λ c.
     let line = c .before .before .before .before .enum-told in
     let read = c .before .before .before .before .before .before .read-line in
     let d = c .before .before .before .before .before .before .before .before in
-    let put = c .before .before .put-answer in
+    let put = c .before .before .put-reply in
     turn (d .before .before .loop .inv) (d .before .loop-test .taken) (d .line-end .ensures) _ (sym (line .given .1) ∙ read .ensures) _ refl _ _ (put .ensures .0) (put .ensures .1) (put .kept .0))
     (λ c. search needs) (λ c κs. search needs)
     (λ c. search needs) (λ c κs. search needs)
@@ -87,17 +91,13 @@ run-spec =
     (λ c. search needs) (λ c κs. search needs)
     (λ c. search needs) (λ c κs. search needs)
     (λ c. search needs) (λ c κs. search needs)
-    (λ c κs. search needs)
+    (λ c κs h. enough (c .before .before .before .before .before .before .before .before) h)
     (λ c. let d = c .before .before .before .before .before .before .before .before .before .before in omega (arith, past d, inside d))
     (λ c.
-    let put = c .before .before .put-answer2 in
+    let put = c .before .before .put-reply2 in
     let said = c .before .before .before .before in
     let read = said .before .before .before .before .read-line in
     let d = said .before .before .before .before .before .before in
     turn (d .before .before .loop .inv) (d .before .loop-test .taken) (d .line-end .ensures) _ (read .ensures) _ (replied said) _ _ (put .ensures .0) (put .ensures .1) (put .kept .0))
-    (λ c κs.
-    let inv = c .before .before .loop .inv in
-    let rows = sound (inv .reached) .tables .core in
-    (search needs, rows .accounts .few, rows .receipts .few, rows .matches .few))
     (λ c. search needs)
-    (λ c. search (needs, ended)))
+    (λ c. ended (c .before .before .loop .inv) (search needs) refl refl))

@@ -1,45 +1,42 @@
--- `session` meets its contract: an input that is refused whole, and one that has a first line. Assumes nothing.
-use mathlib.Core.Path.{sym, _∙_}
-use Prim.Native.Nat.{_≤_}
-use lib.ListN.{length}
-use lib.Seq.{length-take-le}
-use denote.Ref.{now}
+-- `session` meets its contract: a line one that is accepted, and one that is refused. Assumes nothing.
+use native.Mathlib.Omega.{arith}
 use borrow.Author.Needs.{needs}
-use Rattle.text.proofs.Cutting.{end-within}
-use Rattle.session.specs.Session.{opened}
-use Rattle.session.proofs.Starting.{too-long, nothing, from-first, delivered}
+use denote.Ref.{now}
+use Rattle.book.specs.laws.Reaching.{sound}
+use Rattle.session.proofs.Starting.{Begun, first-within, has-begun, followed-reached, accepted-put, refused-put, delivered}
 use Rattle.session.proofs.session.Statement.{statement}
 use Rattle.session.proofs.session.Tie as tie
 
--- line one ends within the input
-inside : (c : tie.After-line-end) → c .line-end .result ≤ length (now (c .before .before .before .before .before .args .input))
-inside c = end-within _ 0 _ (search needs) (c .line-end .ensures)
+-- an accepted line one
+begun : (c : tie.After-enum-told) → let d = c .before .before .before .before .before .before in Begun (now (d .before .before .before .args .input)) (d .line-one .result)
+begun c = has-begun _ _ (c .before .before .before .before .before .before .line-one .ensures) (c .enum-told .given .1)
 
 pub session-spec : {M : Type 1} → statement M
-unfolding opened
 session-spec =
     tie.close
     (tie.spec
     (λ c κs. search needs)
-    (λ c. search needs)
-    (λ c. search (needs, delivered, too-long))
     (λ c κs. search needs)
     (λ c. search needs)
-    (λ c. search (needs, delivered, nothing))
     (λ c κs. search needs)
-    (λ c. sym (length-take-le _ _ (inside (c .before))))
-    (λ c κs. search needs)
+    (λ c κs.
+    let b = begun (c .before .before) in
+    (b .reached, (first-within _ _ (c .before .line-end .ensures), (search needs, λ h. omega (arith, b .few)))))
+    (λ c κs.
+    let run = c .before .before .before in
+    let told = run .before .before .before in
+    let put = told .before .before .before .before in
+    let b = begun told in
+    let rows = sound (followed-reached (run .run .ensures) (b .reached)) .tables .core in
+    (omega (arith, b .few, run .run .ensures .room, run .run .kept .1, put .put-answer .kept .0), rows .accounts .few, rows .receipts .few, rows .matches .few))
     (λ c. search needs)
-    (λ c. search needs)
-    (λ c κs. search needs)
     (λ c. search needs)
     (λ c.
-    let line = c .before .before .before .before .enum-told in
-    let d = c .before .before .before .before .before .before in
-    delivered (from-first _ (search needs) (search needs) _ (d .before .before .line-end .ensures) _ (sym (line .given .1) ∙ d .read-opening .ensures)) (c .before .before .put-answer3 .ensures .0))
-    (λ c κs. (inside (c .before .before .before .before .before .before), search needs))
+    let run = c .before .before .before .before .before .before in
+    let told = run .before .before .before in
+    let put = told .before .before .before .before in
+    delivered (accepted-put _ _ (put .before .before .line-one .ensures) (told .enum-told .given .1) (run .before .before .line-end .ensures) (put .put-answer .ensures .0) (run .run .ensures) (c .before .before .put-ledger .ensures .0)))
     (λ c. search needs)
     (λ c.
-    let line = c .before .before .before .before .before .line in
-    let d = c .before .before .before .before .before .before .before in
-    delivered (from-first _ (search needs) (search needs) _ (d .before .before .line-end .ensures) _ (sym (line .given .1) ∙ d .read-opening .ensures)) (c .before .before .start .ensures)))
+    let put = c .before .before .before .before in
+    delivered (refused-put _ _ (put .before .before .line-one .ensures) (c .enum-told2 .given .1) (put .put-answer .ensures .0))))

@@ -1,5 +1,6 @@
 -- `put_signed` meets its contract. Assumes nothing.
 use borrow.Author.Needs.{needs}
+use Rattle.text.specs.Print.{digits}
 use Rattle.text.proofs.Printing.{put-then}
 use Rattle.text.proofs.Signs.{Below, below, NotBelow, not-below}
 use Rattle.text.proofs.print.put_signed.Statement.{statement}
@@ -26,6 +27,6 @@ put-signed-spec =
     (λ c κs. search needs)
     (λ c. search needs)
     (λ c. let b = c .before .before .before .before .before .before in
-    (rw (← minus (b .before .before) .text) (put-then (b .put-byte .ensures) (c .before .before .put-number .ensures .0)), search needs))
+    (rw (← minus (b .before .before) .text digits) (put-then (b .put-byte .ensures) (c .before .before .put-number .ensures .0)), search needs))
     (λ c. search needs)
-    (λ c. (rw (← plus (c .before .before .before .before) .text) (c .before .before .put-number2 .ensures .0), search needs)))
+    (λ c. (rw (← plus (c .before .before .before .before) .text digits) (c .before .before .put-number2 .ensures .0), search needs)))

@@ -1,0 +1,28 @@
+-- The page program of document 02's Job 1: the page of the book after a session. Assumes nothing.
+use mathlib.Core.Path.{_≡_}
+use mathlib.Core.List.{List}
+use Prim.Native.Nat.{ℕ, _≤_}
+use lib.ListN.{length, take}
+use Rattle.coal.specs.Choice.{pick}
+use Rattle.book.specs.Answers.{is-accepted}
+use Rattle.text.specs.Lines.{lines}
+use Rattle.text.specs.Print.{answer-line}
+use Rattle.text.specs.Page.{page, lent, lent-count}
+use Rattle.session.specs.Session.{outcome, Demanded}
+
+-- the page of the book after a session; a refused line one's `no n`
+unfoldable pub page-output : List ℕ → List ℕ
+page-output s = pick (is-accepted (outcome s .answer)) (page (outcome s .book)) (answer-line (outcome s .answer))
+
+-- the longest page: 4 + 32 + 256 + 128 lines of 41 bytes
+abbrev pub page-room : ℕ
+page-room = 17_220
+
+-- it is written into a lent buffer of any length, and r says how many bytes; demand 3 holds of the calls that led to the book
+pub record Paged (input before out : List ℕ) (r : ℕ) : Type 0 where
+  pub within : r ≤ length out
+  pub counted : r ≡ length (take r out)
+  pub count : r ≡ lent-count (page-output input) before
+  pub text : out ≡ lent (page-output input) before
+  pub enough : page-room ≤ length before → r ≡ length (page-output input)
+  pub demanded : Demanded (lines input)
