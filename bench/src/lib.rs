@@ -1,4 +1,4 @@
-//! Document 01 in plain Rust, by reference, written from the paper: the yardstick that the proved book is compared with.
+//! The papers' rules in plain Rust, by reference, written from documents 01 and 02: the yardstick that the proved book is compared with.
 pub mod machine;
 pub mod generate;
 pub mod proved;

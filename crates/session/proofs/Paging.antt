@@ -1,11 +1,15 @@
 -- The page of the book after a session, in a lent buffer, and the room that is enough for it. Assumes nothing.
 use mathlib.Core.Path.{_≡_, refl, ap, sym, _∙_}
-use mathlib.Core.List.{List, [], _∷_}
-use Prim.Native.Nat.{ℕ, _≤_}
+use mathlib.Core.Bool.{Bool, true, false}
+use mathlib.Core.List.{List, [], _∷_, _++_}
+use Prim.Native.Nat.{ℕ, _≤_, _<_}
 use native.Mathlib.Omega.{arith}
 use lib.Dec.{ltb}
-use lib.ListN.{length, take}
+use lib.ListN.{length, take, drop, length-append}
 use lib.Seq.{length-take-le}
+use borrow.Author.Tests.{lt-ltb, le-ltb}
+use Rattle.coal.specs.Choice.{pick}
+use Rattle.book.specs.declared.Book.{Book}
 use Rattle.book.specs.declared.Answer.{Answer}
 use Rattle.book.specs.declared.Outcome.{Outcome}
 use Rattle.book.specs.Answers.{is-accepted}
@@ -13,13 +17,59 @@ use Rattle.book.specs.Opening.{opening}
 use Rattle.book.specs.laws.Counting.{by-pick}
 use Rattle.text.specs.declared.lines.OpeningLine.{OpeningLine}
 use Rattle.text.specs.Lines.{lines, opening-line-of}
-use Rattle.text.specs.Print.{answer-line, spaced, digits, last-digits}
-use Rattle.text.specs.Page.{page, lent, lent-count}
+use Rattle.text.specs.Print.{Put, answer-line, spaced, digits, last-digits}
+use Rattle.text.specs.Page.{page, lent, page-answer}
 use Rattle.text.proofs.Columns.{few, page-length}
-use Rattle.text.proofs.Lent.{lent-within, lent-all}
+use Rattle.text.proofs.Lent.{lent-written, lent-short}
 use Rattle.session.specs.Session.{opened, first, line-one, outcome}
-use Rattle.session.specs.Paging.{page-output, page-room, Paged}
+use Rattle.session.specs.Paging.{page-output, page-room, lent-count, Paged}
 use Rattle.session.proofs.Starting.{demanded, outcome-led}
+
+-- ---- the count of bytes in a lent buffer
+
+module _ (t before : List ℕ) where
+  -- all of them, where the buffer is long enough
+  lent-all : length t ≤ length before → lent-count t before ≡ length t
+  unfolding lent-count
+  lent-all h = rw (le-ltb (length before) (length t) h) refl
+
+  lent-within : lent-count t before ≤ length (lent t before)
+  unfolding lent lent-count
+  lent-within = go (ltb (length before) (length t))
+    where
+      go : (c : Bool) → pick c 0 (length t) ≤ length (pick c before (t ++ drop (length t) before))
+      go true = omega arith
+      go false = simp length-append (omega arith)
+
+-- none, where it is too short
+pub lent-none : {before : List ℕ} (t : List ℕ) → length before < length t → (0 ≡ lent-count t before) × (before ≡ lent t before)
+unfolding lent-count
+lent-none {before} t h = (rw (lt-ltb (length before) (length t) h) refl, lent-short t h)
+
+-- a text from a buffer of its own, where it was written first
+pub lent-again : {x y before after : List ℕ} {w r : ℕ} (t : List ℕ) → Put x y 0 w t → w ≤ length before → Put before after 0 r (take w y) → (r ≡ lent-count t before) × (after ≡ lent t before)
+lent-again {before = before} t p h q =
+    let g : length t ≤ length before = omega (arith, p .next) in
+    let put : Put _ _ 0 _ t = rw (p .text) at q in
+    (put .next ∙ omega (arith, lent-all t before g), lent-written t g put)
+
+-- the page's answer tells the count
+module _ (b : Book) (before : List ℕ) {n : ℕ} where
+  pub accepted-count : Answer.Accepted n ≡ page-answer b before → n ≡ lent-count (page b) before
+  unfolding page-answer lent-count
+  accepted-count e = go (ltb (length before) (length (page b))) e
+    where
+      go : (c : Bool) → Answer.Accepted n ≡ pick c (Answer.Refused 27) (Answer.Accepted (length (page b))) → n ≡ pick c 0 (length (page b))
+      go true q = cc
+      go false q = cc
+
+  pub refused-count : Answer.Refused n ≡ page-answer b before → 0 ≡ lent-count (page b) before
+  unfolding page-answer lent-count
+  refused-count e = go (ltb (length before) (length (page b))) e
+    where
+      go : (c : Bool) → Answer.Refused n ≡ pick c (Answer.Refused 27) (Answer.Accepted (length (page b))) → 0 ≡ pick c 0 (length (page b))
+      go true q = refl
+      go false q = cc
 
 -- ---- the room that is enough
 

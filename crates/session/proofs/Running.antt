@@ -98,7 +98,7 @@ module _ {s : List ℕ} {b : Book} {wanted : Bool} {from at : ℕ} {out₀ out :
         room = omega (arith, inv .room, inv .within);
         book = g ∙ (rw rest at (inv .same));
       }
-      where
-        none : (c : Bool) → Put out out w w (pick c [] [])
-        none true = put-none out w
-        none false = put-none out w
+    where
+      none : (c : Bool) → Put out out w w (pick c [] [])
+      none true = put-none out w
+      none false = put-none out w

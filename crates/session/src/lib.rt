@@ -1,4 +1,4 @@
-// A session: from the bytes of its input to the bytes of its output, to the book after it, or to that book's page.
+// A session: from the bytes of its input to the bytes of its output, or to the page of the book after it.
 ghost use mathlib.Core.Bool.{true};
 ghost use mathlib.Core.Path.{_≡_};
 ghost use mathlib.Core.List.{[]};
@@ -10,8 +10,9 @@ ghost use Rattle.book.specs.Opening.{no-book};
 ghost use Rattle.book.specs.Lists.{Reached};
 ghost use Rattle.text.specs.Lines.{lines};
 ghost use Rattle.text.specs.Print.{Put, answer-line};
+ghost use Rattle.text.specs.Page.{lent};
 ghost use Rattle.session.specs.Session.{Followed, line-one, outcome, room, Delivered};
-ghost use Rattle.session.specs.Paging.{Paged};
+ghost use Rattle.session.specs.Paging.{lent-count, Paged};
 use book::Answer;
 use book::Book;
 use book::Call;
@@ -147,7 +148,7 @@ pub fn session(input: &[u8], out: &mut [u8]) -> usize
     }
 }
 
-// Line one's answer and, where that is accepted, the book after the session, which prints nothing.
+// Line one's answer and, where that is accepted, the book after the session; nothing is printed.
 fn outcome(input: &[u8]) -> Outcome
     ensures { λ r. ⌜ r ≡ outcome (now (input .entry)) ⌝ }
 {
@@ -168,6 +169,18 @@ fn outcome(input: &[u8]) -> Outcome
     }
 }
 
+// An answer's line, at the front of a lent buffer: how many bytes it has, or 0, with nothing written, where the buffer is too short.
+fn lend_answer(out: &mut [u8], answer: Answer) -> usize
+    ensures { λ r. ⌜ (r ≡ lent-count (answer-line answer) (now (out .entry))) × (now (out .exit) ≡ lent (answer-line answer) (now (out .entry))) ⌝ }
+{
+    let mut line = [0; 24];
+    let w = text::put_answer(&mut line, 0, answer);
+    if out.len() < w {
+        return 0;
+    }
+    text::put_bytes(out, 0, &line[..w])
+}
+
 // What the page program prints, at the front of a lent buffer: how many bytes it has, or 0, with nothing written, where the buffer is too short.
 pub fn page(input: &[u8], out: &mut [u8]) -> usize
     ensures { λ r. ⌜ Paged (now (input .entry)) (now (out .entry)) (now (out .exit)) r ⌝ }
@@ -182,6 +195,6 @@ pub fn page(input: &[u8], out: &mut [u8]) -> usize
                 Answer::Refused(_) => 0,
             }
         }
-        Answer::Refused(_) => text::lend_answer(out, answer),
+        Answer::Refused(_) => lend_answer(out, answer),
     }
 }

@@ -128,10 +128,6 @@ line-count b = 4 + b .«account_count» + b .«receipt_count» + b .«match_coun
 unfoldable pub lent : List ℕ → List ℕ → List ℕ
 lent t before = pick (ltb (length before) (length t)) before (t ++ drop (length t) before)
 
--- how many bytes are written, 0 where it is too short
-unfoldable pub lent-count : List ℕ → List ℕ → ℕ
-lent-count t before = pick (ltb (length before) (length t)) 0 (length t)
-
 -- "27 when the buffer is too short for the page"; "the accepted answer carries the page's length in bytes"
 unfoldable pub page-answer : Book → List ℕ → Answer
 page-answer b before = pick (ltb (length before) (length (page b))) (Answer.Refused 27) (Answer.Accepted (length (page b)))

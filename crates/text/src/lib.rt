@@ -1,4 +1,4 @@
-// The text of a session: its lines read, its answers and its ledger printed.
+// The text of a session: its lines read, its answers, its ledger and the ledger page printed.
 mod ledger;
 mod lines;
 mod numbers;
@@ -11,6 +11,6 @@ pub use lines::OpeningLine;
 pub use lines::line_end;
 pub use lines::read_line;
 pub use lines::read_opening;
-pub use page::lend_answer;
 pub use page::put_page;
 pub use print::put_answer;
+pub use print::put_bytes;

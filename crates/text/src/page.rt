@@ -1,7 +1,6 @@
 // The ledger page for the wall printer: lines of 40 characters and a newline.
 use crate::ledger::stage_number;
 use crate::print::last_digit;
-use crate::print::put_answer;
 use crate::print::put_byte;
 use crate::print::put_bytes;
 use crate::print::put_next;
@@ -19,10 +18,10 @@ ghost use lib.ListN.{length, getD};
 ghost use Rattle.book.specs.Lists.{Reached};
 ghost use Rattle.book.specs.Rows.{blank-match};
 ghost use Rattle.text.specs.Text.{bytes};
-ghost use Rattle.text.specs.Print.{Put, digits, with-sign, answer-line};
+ghost use Rattle.text.specs.Print.{Put, digits, with-sign};
 ghost use Rattle.text.specs.Page.{spaces, right, yuan, side-word, class-word, state-word};
 ghost use Rattle.text.specs.Page.{line, account-columns, receipt-columns, match-columns, count-columns};
-ghost use Rattle.text.specs.Page.{account-entry, receipt-entry, match-entry, page-section, page, lent, lent-count, page-answer};
+ghost use Rattle.text.specs.Page.{account-entry, receipt-entry, match-entry, page-section, page, lent, page-answer};
 
 fn put_spaces(out: &mut [u8], at: usize, n: usize) -> usize
     requires { ⌜ at + n ≤ length (now out) ⌝ }
@@ -254,16 +253,4 @@ pub fn put_page(out: &mut [u8], book: Book) -> Answer
     let z = put_match_section(out, y, matches, book.match_count);
     put_count_line(out, z, b"fund", book.fund);
     Answer::Accepted(length as u64)
-}
-
-// An answer's line, at the front of a lent buffer: how many bytes it has, or 0, with nothing written, where the buffer is too short.
-pub fn lend_answer(out: &mut [u8], answer: Answer) -> usize
-    ensures { λ r. ⌜ (r ≡ lent-count (answer-line answer) (now (out .entry))) × (now (out .exit) ≡ lent (answer-line answer) (now (out .entry))) ⌝ }
-{
-    let mut line = [0; 24];
-    let w = put_answer(&mut line, 0, answer);
-    if out.len() < w {
-        return 0;
-    }
-    put_bytes(out, 0, &line[..w])
 }

@@ -1,9 +1,8 @@
 -- `page` meets its contract: the page of the book after the session, or line one's answer. Assumes nothing.
 use mathlib.Core.Path.{sym, _∙_}
 use borrow.Author.Needs.{needs}
-use Rattle.text.proofs.Lent.{accepted-count, refused-count}
 use Rattle.session.proofs.Starting.{outcome-reached}
-use Rattle.session.proofs.Paging.{page-paged, line-paged}
+use Rattle.session.proofs.Paging.{accepted-count, refused-count, page-paged, line-paged}
 use Rattle.session.proofs.page.Statement.{statement}
 use Rattle.session.proofs.page.Tie as tie
 
