@@ -5,8 +5,6 @@ use mathlib.Core.Path.{_≡_, sym}
 use mathlib.Core.List.{List, [], _∷_, _++_, append-assoc}
 use borrow.Author.Tests.{lt-ltb, le-ltb}
 use lib.ListN.{length, length-append, length-replicate, replicate-append-replicate}
-use Rattle.book.specs.declared.Stage.{Stage}
-use Rattle.book.specs.Codes.{stage-number}
 use Rattle.text.specs.Print.{Put, digits}
 use Rattle.text.specs.Page.{spaces, right, padded, yuan}
 use Rattle.text.proofs.Printing.{put-then, digits-short, digits-step, digits-one, digits-longer}
@@ -31,14 +29,6 @@ module _ (w : ℕ) (t : List ℕ) (h : length t ≤ w) where
   pub padded-length : length (padded w t) ≡ w
   unfolding padded
   padded-length = simp (length-append, length-replicate) (omega arith)
-
--- a stage's number has one digit
-pub stage-small : (s : Stage) → stage-number s < 10
-stage-small Stage.Paired = omega arith
-stage-small Stage.Prepaid = omega arith
-stage-small Stage.Held = omega arith
-stage-small Stage.Closed = omega arith
-stage-small Stage.Ended = omega arith
 
 -- ---- writing
 

@@ -20,13 +20,14 @@ use Rattle.book.specs.Codes.{stage-number}
 use Rattle.book.specs.Tables.{account-at, receipt-at, match-at}
 use Rattle.book.specs.Lists.{Reached}
 use Rattle.book.specs.laws.Counting.{by-pick}
+use Rattle.book.specs.laws.Bound.{stage-few}
 use Rattle.book.specs.laws.Reaching.{sound}
 use Rattle.text.specs.Text.{bytes}
 use Rattle.text.specs.Print.{digits, last-digits, with-sign}
 use Rattle.text.specs.Ledger.{each}
 use Rattle.text.specs.Page.{spaces, right, padded, yuan, side-word, class-word, state-word, line, account-columns, receipt-columns, match-columns, count-columns, account-entry, receipt-entry, match-entry, page, printable, Characters, Lined, none, more, line-count}
 use Rattle.text.proofs.Printing.{digits-64}
-use Rattle.text.proofs.Aligning.{digits-within, right-length, padded-length, stage-small}
+use Rattle.text.proofs.Aligning.{digits-within, right-length, padded-length}
 
 -- ---- characters
 
@@ -120,7 +121,7 @@ match-40 : (j : ℕ) (m : Match) → j < 1_000 → m .buyer < 1_000 → m .selle
 match-40 j m f g h k l n =
     both (both (number 3 j (omega arith) (omega arith)) (both (number 3 (m .buyer) (omega arith) (omega arith)) (number 3 (m .seller) (omega arith) (omega arith))))
     (both (number 5 (m .units) (omega arith) (omega arith)) (both (number 8 (m .price) (omega arith) (omega arith))
-    (both (number 2 (stage-number (m .stage)) (omega arith) (omega (arith, stage-small (m .stage)))) (number 16 (m .held) (omega arith) (omega arith)))))
+    (both (number 2 (stage-number (m .stage)) (omega arith) (omega (arith, stage-few (m .stage)))) (number 16 (m .held) (omega arith) (omega arith)))))
 
 count-40 : (word : List ℕ) (n : ℕ) → length word ≤ 8 → printable word ≡ true → n < 2 ^ 64 → Characters 40 (count-columns word n)
 unfolding padded

@@ -102,7 +102,7 @@ pub bounded : {b : Book} → Reached b → Bounded b
 bounded (opened kind t r p h) = opening-bounded kind t r p
 bounded (called {b = b} c h) = let r = reached-tables h in change-bounded b r (bounded h) (changed b c r)
 
-stage-few : (s : Stage) → stage-number s ≤ 4
+pub stage-few : (s : Stage) → stage-number s ≤ 4
 stage-few Stage.Paired = omega arith
 stage-few Stage.Prepaid = omega arith
 stage-few Stage.Held = omega arith

@@ -1,8 +1,8 @@
 -- `put_match_line` meets its contract: one writing after another. Assumes nothing.
 use native.Mathlib.Omega.{arith}
 use borrow.Author.Needs.{needs}
+use Rattle.book.specs.laws.Bound.{stage-few}
 use Rattle.text.proofs.Printing.{put-then}
-use Rattle.text.proofs.Aligning.{stage-small}
 use Rattle.text.proofs.page.put_match_line.Statement.{statement}
 use Rattle.text.proofs.page.put_match_line.Tie as tie
 
@@ -19,7 +19,7 @@ put-match-line-spec =
     (λ c κs.
     let stage = c .before .before .before .before .before .before .before .before .before .stage-number .ensures in
     let m = c .before .before .before .before .before .before .before .before .before .before .before .args .m in
-    (search needs, search needs, search needs, omega (arith, stage, stage-small (m .stage)), search needs))
+    (search needs, search needs, search needs, omega (arith, stage, stage-few (m .stage)), search needs))
     (λ c κs. search needs)
     (λ c. search needs)
     (λ c.
