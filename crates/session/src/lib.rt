@@ -189,7 +189,7 @@ pub fn page(input: &[u8], out: &mut [u8]) -> usize
     let answer = o.answer;
     match answer {
         Answer::Accepted(_) => {
-            let paged = text::put_page(out, o.book);
+            let paged = columns::put_page(out, o.book);
             match paged {
                 Answer::Accepted(n) => n as usize,
                 Answer::Refused(_) => 0,

@@ -8,7 +8,7 @@ use mathlib.Core.List.{List, [], _∷_, _++_, append-assoc, append-nil}
 use borrow.Author.Tests.{le-leb}
 use lib.Dec.{ltb, leb}
 use lib.IntN.{ℤ, pos, negsuc, natAbs}
-use lib.ListN.{length, length-append}
+use lib.ListN.{length, length-append, length-replicate}
 use Rattle.coal.specs.Choice.{pick}
 use Rattle.book.specs.declared.Side.{Side}
 use Rattle.book.specs.declared.ReceiptState.{ReceiptState}
@@ -26,8 +26,24 @@ use Rattle.text.specs.Text.{bytes}
 use Rattle.text.specs.Print.{digits, last-digits, with-sign}
 use Rattle.text.specs.Ledger.{each}
 use Rattle.text.specs.Page.{spaces, right, padded, yuan, side-word, class-word, state-word, line, account-columns, receipt-columns, match-columns, count-columns, account-entry, receipt-entry, match-entry, page, printable, Characters, Lined, none, more, line-count}
-use Rattle.text.proofs.Printing.{digits-64}
-use Rattle.text.proofs.Aligning.{digits-within, right-length, padded-length}
+use Rattle.text.proofs.Printing.{digits-64, digits-short}
+
+-- ---- lengths
+
+-- a number below 10 ^ w has at most w digits
+pub digits-within : (w n : ℕ) → 0 < w → n < 10 ^ w → length (digits n) ≤ w
+digits-within zero n g h = absurd (omega arith)
+digits-within (suc w) n g h = digits-short w n h
+
+module _ (w : ℕ) (t : List ℕ) (h : length t ≤ w) where
+  -- a field has its width, where the text does not outgrow it
+  right-length : length (right w t) ≡ w
+  unfolding right
+  right-length = simp (length-append, length-replicate) (omega arith)
+
+  padded-length : length (padded w t) ≡ w
+  unfolding padded
+  padded-length = simp (length-append, length-replicate) (omega arith)
 
 -- ---- characters
 

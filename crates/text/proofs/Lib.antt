@@ -3,7 +3,6 @@ pub mod Calling
 pub mod Cutting
 pub mod Form
 pub mod Printing
-pub mod Aligning
 pub mod Columns
 pub mod Lent
 pub mod Signs
