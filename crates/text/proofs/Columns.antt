@@ -23,8 +23,8 @@ use Rattle.book.specs.laws.Counting.{by-pick}
 use Rattle.book.specs.laws.Bound.{stage-few}
 use Rattle.book.specs.laws.Reaching.{sound}
 use Rattle.text.specs.Text.{bytes}
-use Rattle.text.specs.Print.{digits, last-digits, with-sign}
-use Rattle.text.specs.Ledger.{each}
+use Rattle.text.specs.Print.{digits, last-digits, with-sign, spaced}
+use Rattle.text.specs.Ledger.{heading, each}
 use Rattle.text.specs.Page.{spaces, right, padded, yuan, side-word, class-word, state-word, line, account-columns, receipt-columns, match-columns, count-columns, account-entry, receipt-entry, match-entry, page, printable, Characters, Lined, none, more, line-count}
 use Rattle.text.proofs.Printing.{digits-64, digits-short}
 
@@ -126,6 +126,11 @@ state (ReceiptState.Frozen j) = aligned 20 (bytes "frozen") (omega arith) refl
 state ReceiptState.Struck = aligned 20 (bytes "struck") (omega arith) refl
 
 -- ---- lines
+
+-- "these as in the ledger": the ledger's line of a count, or of the fund, is the text that the page pads, and a newline
+pub as-in-ledger : (word : List ℕ) (n : ℕ) → heading word n ≡ line (word ++ ((32 ∷ []) ++ digits n))
+unfolding spaced
+as-in-ledger word n = simp append-assoc
 
 account-40 : (k : ℕ) (a : Account) → k < 1_000 → natAbs (a .cash) < 100_000_000_000_000_000_000 → a .units < 100_000_000 → Characters 40 (account-columns k a)
 account-40 k a f g h = both (number 3 k (omega arith) (omega arith)) (both (cash (a .cash) g) (both (side (a .side)) (number 8 (a .units) (omega arith) (omega arith))))
