@@ -118,8 +118,8 @@ pub fn coal_price(p: u64, h: u64, q: u64, s: u64, f: u64, a: u64) -> u128 {
     x
 }
 
-/// The weight that is paid for.
-pub fn coal_weight(d: u64, w: u64, m: u64) -> u128 {
+/// The weight that is paid for, and the kilograms over: those above D + 500,000, before moisture (document 02, Job 2).
+pub fn coal_weight(d: u64, w: u64, m: u64) -> (u128, u64) {
     let least = d.saturating_sub(500_000);
     let mut x = if w < least {
         (2 * w).saturating_sub(least)
@@ -132,7 +132,7 @@ pub fn coal_weight(d: u64, w: u64, m: u64) -> u128 {
         let k = (m - 2_500 + 5) / 10;
         x = half_up(x * 1_000u64.saturating_sub(k) as u128, 1_000);
     }
-    x
+    (x, w.saturating_sub(d + 500_000))
 }
 
 fn no(condition: bool, number: u64) -> Result<(), u64> {
@@ -497,7 +497,7 @@ impl Book {
         let v = self.value(j);
         let x = self.matches[j].clone();
         let price = coal_price(x.price, x.heat.unwrap_or(0), q, s, f, a);
-        let weight = coal_weight(x.units * self.tonnes * 1_000, w, m);
+        let (weight, over) = coal_weight(x.units * self.tonnes * 1_000, w, m);
         let amount = half_up(price * weight, 1_000);
         self.pay(x.buyer, v);
         self.charge(x.buyer, amount);
@@ -505,7 +505,7 @@ impl Book {
         self.pay(x.seller, part);
         self.matches[j].held = amount - part;
         self.matches[j].stage = Stage::Held;
-        Ok(0)
+        Ok(over)
     }
 
     fn invoice(&mut self, j: u64) -> Answer {

@@ -7,6 +7,7 @@ use lib.IntN.{pos}
 use lib.ListN.{getD, set}
 use lib.Signed.{ltZ}
 use Rattle.coal.specs.Choice.{pick}
+use Rattle.coal.specs.declared.Weighed.{Weighed}
 use Rattle.coal.specs.Coal.{percent-down, coal-price, coal-weight, amount}
 use Rattle.book.specs.Types.{Stage, Receipt, Match, Book, Outcome, Fault}
 use Rattle.book.specs.Counting.{iter}
@@ -102,10 +103,13 @@ settle b j =
     (refuse-if (ltb (b .day) (match-at b j .due)) 23 b
     (accept 0 (settled b j (match-at b j) (buyer-fault b j) (seller-fault b j)))))
 
--- "amount B", of P the match's price, H its declared heat, D = units × T × 1,000 kg, and the measured values
+-- what the weight rule gives for the cargo of a match: "D = units × T × 1,000 kg", W and M as measured
+abbrev pub cargo : Book → Match → (w m : ℕ) → Weighed
+cargo b c w m = coal-weight (c .units * b .tonnes * 1_000) w m
+
+-- "amount B", of P the match's price, H its declared heat, the settled weight, and the measured values
 unfoldable pub amount-due : Book → Match → (w q m s f a : ℕ) → ℕ
-amount-due b c w q m s f a =
-    amount (coal-price (c .price) (heat-value (c .heat)) q s f a) (coal-weight (c .units * b .tonnes * 1_000) w m)
+amount-due b c w q m s f a = amount (coal-price (c .price) (heat-value (c .heat)) q s f a) (cargo b c w m .settled)
 
 -- "buyer gets V back and pays B; seller gets 80% of B, down; the rest is held; stage held."
 unfoldable pub measured : Book → ℕ → Match → ℕ → Book
@@ -113,6 +117,7 @@ measured b j c x =
     set-stage (pay (charge (pay b (c .buyer) (value b c)) (c .buyer) x) (c .seller) (first-part x)) j (x - first-part x) Stage.Held
 
 -- "14 Measure match, W, Q, M, S, F, A." "W kg 0..40,000,000,000"; "these five 0..10,000"; "Measure (prepaid)"
+-- "Measure's accepted answer carries the second in place of 0.": the kilograms over
 unfoldable pub measure : Book → (j w q m s f a : ℕ) → Outcome
 measure b j w q m s f a =
     refuse-if (not (b .board)) 4 b
@@ -124,7 +129,7 @@ measure b j w q m s f a =
     (refuse-if (ltb 10_000 s) 24 b
     (refuse-if (ltb 10_000 f) 24 b
     (refuse-if (ltb 10_000 a) 24 b
-    (accept 0 (measured b j (match-at b j) (amount-due b (match-at b j) w q m s f a)))))))))))
+    (accept (cargo b (match-at b j) w m .over) (measured b j (match-at b j) (amount-due b (match-at b j) w q m s f a)))))))))))
 
 -- "15 Invoice match." "Invoice (held): the money held goes to the seller; closed."
 unfoldable pub invoice : Book → ℕ → Outcome

@@ -11,4 +11,5 @@ pub mod BoardFaults
 pub mod Terminate
 pub mod HeatLate
 pub mod Measured
+pub mod Over
 pub mod Tables

@@ -5,9 +5,9 @@ use lib.IntN.{pos}
 use Rattle.book.specs.declared.Call.{Call}
 use Rattle.computed.specs.Script.{Line, line, ok, no, play, owes, account, matched, fund, ledger-after, sums-after}
 
--- up to a Measure whose amount is above V
-abbrev over : List Line
-over =
+-- up to the second Measure, whose amount is above V
+abbrev first-two : List Line
+first-two =
     line (Call.Join 0 1) (ok 0)
     ∷ line (Call.Join 0 1) (ok 1)
     ∷ line (Call.Join 0 1) (ok 2)
@@ -37,11 +37,11 @@ over =
     ∷ line (Call.Invoice 0) (no 22)
     ∷ line (Call.Measure 0 19_499_999 5_300 2_504 150 4_200 3_000) (ok 0)
     ∷ line (Call.Measure 0 1 1 1 1 1 1) (no 22)
-    ∷ line (Call.Measure 1 40_000_000_000 6_000 2_632 80 3_000 3_000) (ok 0)
+    ∷ line (Call.Measure 1 40_000_000_000 6_000 2_632 80 3_000 3_000) (ok 39_979_500_000)
     ∷ []
 
 -- "Cash may go below zero by penalties and by Measure."
-below-zero : ledger-after 1 20_000 10 80_000 over
+below-zero : ledger-after 1 20_000 10 80_000 first-two
     ≡ account 0 (owes 14_512_597) 0 0
     ∷ account 1 (pos 1_158_939_480) 0 0
     ∷ account 2 (pos 1_412_670_596) 0 0
@@ -55,7 +55,7 @@ below-zero = refl
 
 abbrev script : List Line
 script =
-    over
+    first-two
     ++ line (Call.Measure 2 0 0 10_000 10_000 10_000 10_000) (ok 0)
     ∷ line (Call.Invoice 0) (ok 0)
     ∷ line (Call.Invoice 1) (ok 0)

@@ -5,6 +5,7 @@ ghost use Prim.Native.Nat.{_≤_, _<_, _*_};
 ghost use lib.Dec.{ltb};
 ghost use Rattle.coal.specs.Choice.{pick};
 ghost use Rattle.coal.specs.Coal.{coal-price, coal-weight, amount};
+ghost use Rattle.coal.specs.Ranges.{most-weight};
 ghost use Rattle.book.specs.declared.Fault.{Fault};
 ghost use Rattle.book.specs.Counting.{iter, tally};
 ghost use Rattle.book.specs.Rows.{heat-missing, heat-value};
@@ -19,6 +20,7 @@ use book::Match;
 use book::Outcome;
 use book::Receipt;
 use book::Stage;
+use coal::Weighed;
 use coal::rounding::percent_down;
 
 // ---- money and stage of a match
@@ -320,18 +322,26 @@ pub fn settle(book: Book, number: u64) -> Outcome
 
 // ---- Measure
 
-// "works out amount B": of P the match's price, H its declared heat, D = units × T × 1,000 kg, and the measured values.
-fn amount_due(c: Match, tonnes: u64, w: u64, q: u64, m: u64, s: u64, f: u64, a: u64) -> u64
+// The weight rule for the cargo of a match: "D = units × T × 1,000 kg".
+fn cargo(c: Match, tonnes: u64, w: u64, m: u64) -> Weighed
     requires { ⌜ c .units ≤ 1_000 ⌝ }
+    requires { ⌜ tonnes ≤ 20_000 ⌝ }
+    ensures { λ r. ⌜ r ≡ coal-weight (c .units * tonnes * 1_000) w m ⌝ }
+    ensures { λ r. ⌜ r .settled ≤ most-weight ⌝ }
+{
+    coal::weight(c.units as u64 * tonnes * 1_000, w, m)
+}
+
+// "works out amount B": of P the match's price, H its declared heat, the settled weight, and the measured values.
+fn amount_due(c: Match, weight: u64, q: u64, s: u64, f: u64, a: u64) -> u64
     requires { ⌜ c .price ≤ 1_000_000 ⌝ }
     requires { ⌜ heat-value (c .heat) ≤ 10_000 ⌝ }
-    requires { ⌜ tonnes ≤ 20_000 ⌝ }
-    ensures { λ r. ⌜ r ≡ amount (coal-price (c .price) (heat-value (c .heat)) q s f a) (coal-weight (c .units * tonnes * 1_000) w m) ⌝ }
+    requires { ⌜ weight ≤ most-weight ⌝ }
+    ensures { λ r. ⌜ r ≡ amount (coal-price (c .price) (heat-value (c .heat)) q s f a) weight ⌝ }
     ensures { λ r. ⌜ r ≤ most-paid ⌝ }
 {
     let heat = c.heat;
     let price = coal::price(c.price as u64, rows::heat_value(heat), q, s, f, a);
-    let weight = coal::weight(c.units as u64 * tonnes * 1_000, w, m);
     coal::amount(price, weight)
 }
 
@@ -356,7 +366,7 @@ fn out_of_range(w: u64, q: u64, m: u64, s: u64, f: u64, a: u64) -> bool
     (40_000_000_000 < w) | (10_000 < q) | (10_000 < m) | (10_000 < s) | (10_000 < f) | (10_000 < a)
 }
 
-// "14 Measure match, W, Q, M, S, F, A." "Measure (prepaid)"
+// "14 Measure match, W, Q, M, S, F, A." "Measure (prepaid)" It carries the kilograms over.
 pub fn measure(book: Book, number: u64, w: u64, q: u64, m: u64, s: u64, f: u64, a: u64) -> Outcome
     requires { ⌜ Reached book ⌝ }
     ensures { λ r. ⌜ r ≡ measure book number w q m s f a ⌝ }
@@ -389,10 +399,11 @@ pub fn measure(book: Book, number: u64, w: u64, q: u64, m: u64, s: u64, f: u64, 
         };
     }
     let v = value(c, book.tonnes);
-    let amount = amount_due(c, book.tonnes, w, q, m, s, f, a);
+    let loaded = cargo(c, book.tonnes, w, m);
+    let amount = amount_due(c, loaded.settled, q, s, f, a);
     let next = measured(book, number, c, v, amount);
     Outcome {
-        answer: Answer::Accepted(0),
+        answer: Answer::Accepted(loaded.over),
         book: next,
     }
 }

@@ -17,7 +17,7 @@ use Rattle.book.specs.Receipts.{lodge, strike, new-receipt}
 use Rattle.book.specs.Pairing.{pair}
 use Rattle.book.specs.Offers.{declare, offer, retract, take-offer, end-offer}
 use Rattle.book.specs.Closing.{close, all-passes, lapse-offers}
-use Rattle.book.specs.Settlement.{set-stage, settle, settled, buyer-fault, seller-fault, measure, measured, amount-due, invoice, terminate, terminated}
+use Rattle.book.specs.Settlement.{set-stage, settle, settled, buyer-fault, seller-fault, measure, measured, cargo, amount-due, invoice, terminate, terminated}
 use Rattle.book.specs.Calls.{step}
 use Rattle.book.specs.laws.Counting.{impossible}
 
@@ -147,7 +147,7 @@ pub data Answered (b : Book) : Call → Outcome → Type 0 where
   days : {p : ℕ} → MayDay b p → Answered b (Call.Day p) (accept (b .day + 1) (with-day b p (b .day + 1)))
   closes : MayClose b → Answered b Call.Close (accept (all-passes b .«match_count» - b .«match_count») (with-open (lapse-offers (all-passes b)) false))
   settles : {j : ℕ} → MaySettle b j → Answered b (Call.Settle j) (accept 0 (settled b j (match-at b j) (buyer-fault b j) (seller-fault b j)))
-  measures : {j w q m s f a : ℕ} → MayMeasure b j w q m s f a → Answered b (Call.Measure j w q m s f a) (accept 0 (measured b j (match-at b j) (amount-due b (match-at b j) w q m s f a)))
+  measures : {j w q m s f a : ℕ} → MayMeasure b j w q m s f a → Answered b (Call.Measure j w q m s f a) (accept (cargo b (match-at b j) w m .over) (measured b j (match-at b j) (amount-due b (match-at b j) w q m s f a)))
   invoices : {j : ℕ} → MayInvoice b j → Answered b (Call.Invoice j) (accept 0 (set-stage (pay b (match-at b j .seller) (match-at b j .held)) j 0 Stage.Closed))
   terminates : {j party : ℕ} → MayTerminate b j party → Answered b (Call.Terminate j party) (accept 0 (terminated b j (match-at b j) party))
 

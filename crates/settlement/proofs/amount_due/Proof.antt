@@ -1,4 +1,4 @@
--- `amount_due` meets its contract: price, weight and amount are within the ranges of coal. Assumes nothing.
+-- `amount_due` meets its contract: price and amount are within the ranges of coal. Assumes nothing.
 use borrow.Author.Needs.{needs}
 use Rattle.coal.specs.Bounds.{coal-needs}
 use Rattle.settlement.specs.Money.{money}
@@ -12,9 +12,5 @@ amount-due-spec =
     (λ c. search needs)
     (λ c κs. search needs)
     (λ c κs. search needs)
-    (λ c. search needs)
-    (λ c. search (needs, money))
-    (λ c. search (needs, money))
-    (λ c κs. search (needs, money))
-    (λ c κs. search (coal-needs, needs, money))
-    (λ c. (rw (c .amount .ensures, c .before .weight .ensures, c .before .before .before .price .ensures, c .before .before .before .before .heat-value .ensures), search (coal-needs, needs, money))))
+    (λ c κs. search (coal-needs, needs))
+    (λ c. (rw (c .amount .ensures, c .before .price .ensures, c .before .before .heat-value .ensures), search (coal-needs, needs, money))))
