@@ -14,11 +14,15 @@ int main(void) {
     /* each line of the session has one line of the output, in order; the ledger follows */
     const uint8_t *answer = output, *end = output + length;
     for (const char *line = strchr(session, '\n'); line[1] != '\0'; line = strchr(line + 1, '\n')) {
-        answer = (const uint8_t *)memchr(answer, '\n', (size_t)(end - answer)) + 1;
+        const uint8_t *newline = memchr(answer, '\n', (size_t)(end - answer));
+        if (newline == NULL) {
+            return 1; /* line one was refused, and nothing follows its answer */
+        }
+        answer = newline + 1;
     }
     unsigned long long over;
     if (sscanf((const char *)answer, "ok %llu", &over) != 1) {
-        return 1; /* refused */
+        return 1; /* the Measure was refused */
     }
     printf("%llu kg over\n", over);
     return 0;

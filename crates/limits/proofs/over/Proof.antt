@@ -1,8 +1,5 @@
 -- `limits::over` meets its contract: each value is computed from the definition. Assumes nothing.
-use mathlib.Core.Path.{ap}
 use borrow.Author.Needs.{needs}
-use borrow.Author.Tests.{eq-eqb}
-use Rattle.coal.specs.declared.Weighed.{Weighed}
 use Rattle.coal.specs.Coal.{coal-weight}
 use Rattle.limits.proofs.over.Statement.{statement}
 use Rattle.limits.proofs.over.Tie as tie
@@ -12,16 +9,16 @@ unfolding coal-weight
 over-spec =
     tie.close
     (tie.spec
-    (λ c κs. search needs) (λ c κs. eq-eqb _ _ (ap (λ (x : Weighed). x .over) (c .before .weight .ensures)))
-    (λ c κs. search needs) (λ c κs. eq-eqb _ _ (ap (λ (x : Weighed). x .over) (c .before .weight2 .ensures)))
-    (λ c κs. search needs) (λ c κs. eq-eqb _ _ (ap (λ (x : Weighed). x .over) (c .before .weight3 .ensures)))
-    (λ c κs. search needs) (λ c κs. eq-eqb _ _ (ap (λ (x : Weighed). x .over) (c .before .weight4 .ensures)))
-    (λ c κs. search needs) (λ c κs. eq-eqb _ _ (ap (λ (x : Weighed). x .over) (c .before .weight5 .ensures)))
-    (λ c κs. search needs) (λ c κs. eq-eqb _ _ (ap (λ (x : Weighed). x .over) (c .before .weight6 .ensures)))
-    (λ c κs. search needs) (λ c κs. eq-eqb _ _ (ap (λ (x : Weighed). x .over) (c .before .weight7 .ensures)))
-    (λ c κs. search needs) (λ c κs. eq-eqb _ _ (ap (λ (x : Weighed). x .over) (c .before .weight8 .ensures)))
-    (λ c κs. search needs) (λ c κs. eq-eqb _ _ (ap (λ (x : Weighed). x .over) (c .before .weight9 .ensures)))
-    (λ c κs. search needs) (λ c κs. eq-eqb _ _ (ap (λ (x : Weighed). x .over) (c .before .weight10 .ensures)))
-    (λ c κs. search needs) (λ c κs. eq-eqb _ _ (ap (λ (x : Weighed). x .over) (c .before .weight11 .ensures)))
-    (λ c κs. search needs) (λ c κs. eq-eqb _ _ (ap (λ (x : Weighed). x .over) (c .before .weight12 .ensures)))
+    (λ c κs. search needs) (λ c κs. rw (c .before .weight .ensures))
+    (λ c κs. search needs) (λ c κs. rw (c .before .weight2 .ensures))
+    (λ c κs. search needs) (λ c κs. rw (c .before .weight3 .ensures))
+    (λ c κs. search needs) (λ c κs. rw (c .before .weight4 .ensures))
+    (λ c κs. search needs) (λ c κs. rw (c .before .weight5 .ensures))
+    (λ c κs. search needs) (λ c κs. rw (c .before .weight6 .ensures))
+    (λ c κs. search needs) (λ c κs. rw (c .before .weight7 .ensures))
+    (λ c κs. search needs) (λ c κs. rw (c .before .weight8 .ensures))
+    (λ c κs. search needs) (λ c κs. rw (c .before .weight9 .ensures))
+    (λ c κs. search needs) (λ c κs. rw (c .before .weight10 .ensures))
+    (λ c κs. search needs) (λ c κs. rw (c .before .weight11 .ensures))
+    (λ c κs. search needs) (λ c κs. rw (c .before .weight12 .ensures))
     (λ c. search needs))
