@@ -1,5 +1,7 @@
 //! The machine: a book and its sixteen calls, changed in place.
 
+use std::cmp::Ordering;
+
 #[derive(Clone, Copy, PartialEq, Eq)]
 pub enum Side {
     Flat,
@@ -76,6 +78,17 @@ fn half_up(n: u128, d: u128) -> u128 {
     (2 * n + d) / (2 * d)
 }
 
+/// To nearest; an exact half to the even one (document 02, Job 3).
+fn half_even(n: u128, d: u128) -> u128 {
+    let down = n / d;
+    match (2 * (n % d)).cmp(&d) {
+        Ordering::Less => down,
+        Ordering::Greater => down + 1,
+        Ordering::Equal if down % 2 == 0 => down,
+        Ordering::Equal => down + 1,
+    }
+}
+
 fn percent_down(percent: u64, n: u128) -> u128 {
     n * percent as u128 / 100
 }
@@ -84,7 +97,7 @@ fn percent_half_up(percent: u64, n: u128) -> u128 {
     half_up(n * percent as u128, 100)
 }
 
-/// Coal price, steps 1 to 5.
+/// Coal price, steps 1 to 5; step 2 rounds an exact half to even.
 pub fn coal_price(p: u64, h: u64, q: u64, s: u64, f: u64, a: u64) -> u128 {
     let mut e = if q >= h + 300 { h + 300 } else { q };
     if e > 6_000 {
@@ -92,10 +105,10 @@ pub fn coal_price(p: u64, h: u64, q: u64, s: u64, f: u64, a: u64) -> u128 {
     }
     let n = p as u128 * e as u128;
     let mut x = match e {
-        5_300.. => half_up(n, 5_500),
-        4_800.. => half_up(n * 8_768, 50_000_000),
-        4_300.. => half_up(n * 7_687, 45_000_000),
-        _ => half_up(n * 7_687, 90_000_000),
+        5_300.. => half_even(n, 5_500),
+        4_800.. => half_even(n * 8_768, 50_000_000),
+        4_300.. => half_even(n * 7_687, 45_000_000),
+        _ => half_even(n * 7_687, 90_000_000),
     };
     if q + 300 < h {
         x = x.saturating_sub(500);

@@ -12,4 +12,5 @@ pub mod Terminate
 pub mod HeatLate
 pub mod Measured
 pub mod Over
+pub mod Halves
 pub mod Tables
