@@ -14,7 +14,7 @@ pub record NearestUp (n d r : ℕ) : Type 0 where
   pub above : 2 * (r * d) ≤ 2 * n + d
   pub below : 2 * n < 2 * (r * d) + d
 
--- to nearest, "an exact half to the even": r times d is never more than half of d away from n, and r is even where it is exactly half away
+-- to nearest, "an exact half to the even fen": r times d is never more than half of d away from n, and r is even where it is exactly half away
 pub record NearestEven (n d r : ℕ) : Type 0 where
   pub above : 2 * (r * d) ≤ 2 * n + d
   pub below : 2 * n ≤ 2 * (r * d) + d
@@ -68,9 +68,9 @@ module _ (n d : ℕ) (p : 0 < d) where
       let u : NearestUp n d (half-up n d) = nearest-up n d p in
       record {
         above = u .above;
-        below = omega (arith, u .below);
+        below = omega arith;
         even-above = λ h. absurd (eqb-false _ _ e (half-above n d (n / d) (n % d) p (div-add-mod' n d) _ (mod-lt n p) h));
-        even-below = λ h. omega (arith, u .below);
+        even-below = λ h. omega arith;
       }
 
   pub nearest-even : NearestEven n d (half-even n d)
@@ -82,8 +82,8 @@ module _ (n d : ℕ) (p : 0 < d) where
   at-most r s f g true e = leb-true r s e
   at-most r s f g false e =
       let x : suc s * d ≤ r * d = mul-le-mul-right d (leb-false r s e) in
-      let y : r ≡ s + 1 = eq-of-mul-eq-mul-right d p r (s + 1) (omega (arith, f .above, g .below)) in
-      absurd (omega (arith, f .even-above (omega (arith, f .above, g .below)), g .even-below (omega (arith, f .above, g .below))))
+      let y : r ≡ s + 1 = eq-of-mul-eq-mul-right d p r (s + 1) (omega arith) in
+      absurd (omega (arith, f .even-above (omega arith), g .even-below (omega arith)))
 
   -- no other number is so
   pub only-even : (r : ℕ) → NearestEven n d r → r ≡ half-even n d
