@@ -53,11 +53,12 @@ fn near(r: &mut Random, limits: &[u64]) -> u64 {
     }
 }
 
-/// A price; now and then one that meets heats at which step 2 of the coal price is an exact half.
+/// A price; now and then one that meets heats at which step 2 of the coal price is an exact half, or one at which steps 3 and 4 come just to 0.
 fn price(r: &mut Random) -> u64 {
     match r.below(20) {
         0 => r.pick(&[0, 1, 1_000_000, 1_000_001]),
         1..=6 => r.pick(&[2_750, 8_250, 90_750, 3_125, 9_375, 5_000, 15_000, 11_250, 33_750, 225_000]),
+        7..=9 => near(r, &[400, 500, 2_800, 3_300]),
         _ => 1 + r.below(1_000_000),
     }
 }
@@ -122,7 +123,7 @@ fn call(r: &mut Random, board: bool, accounts: u64, late: u64) -> Vec<u64> {
         14 => c.extend([
             j,
             if r.chance(50) { r.below(100_000_000) } else { near(r, &[19_500_000, 20_000_000, 20_500_000, 40_000_000_000]) },
-            if r.chance(60) { 3_500 + r.below(4_000) } else { near(r, &[4_000, 4_300, 4_500, 4_800, 4_875, 5_300, 5_302, 6_000, 10_000]) },
+            if r.chance(60) { 3_500 + r.below(4_000) } else { near(r, &[4_000, 4_300, 4_500, 4_800, 4_875, 5_300, 5_302, 5_499, 5_500, 6_000, 10_000]) },
             if r.chance(50) { r.below(10_001) } else { near(r, &[2_500, 2_505, 2_632, 10_000]) },
             if r.chance(50) { r.below(400) } else { near(r, &[80, 85, 150, 250, 10_000]) },
             if r.chance(50) { r.below(10_001) } else { near(r, &[3_000, 4_200, 10_000]) },
