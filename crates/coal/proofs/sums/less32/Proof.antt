@@ -1,4 +1,4 @@
--- `coal::sums::less32` meets its contract. Assumes nothing.
+-- `coal::sums::less32` meets its contract. The check would find this by itself; written down, a wrong body is refused here, at the numbers where it fails. Assumes nothing.
 use native.Mathlib.Omega.{arith}
 use borrow.Author.Needs.{needs}
 use Rattle.coal.proofs.sums.less32.Statement.{statement}
