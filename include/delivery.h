@@ -7,7 +7,7 @@
 #include <stdint.h>
 
 /* Room for the output of every session. */
-#define DELIVERY_ROOM 829611
+#define DELIVERY_ROOM 848427
 
 /* Runs the session of input's bytes and writes its output from the start of output, where later bytes stay as they were; returns how many bytes it wrote.
    An output of less than DELIVERY_ROOM bytes is refused: 0 is returned and nothing is written. An input above 65,536 bytes,
@@ -15,8 +15,8 @@
    where D are due. The two buffers must not overlap. */
 size_t delivery_session(const uint8_t *input, size_t input_length, uint8_t *output, size_t output_length);
 
-/* Room for every page: 4 + 32 + 256 + 128 lines of 41 bytes. */
-#define DELIVERY_PAGE_ROOM 17220
+/* Room for every page: 4 + 32 + 256 + 256 lines of 41 bytes. */
+#define DELIVERY_PAGE_ROOM 22468
 
 /* Runs the session of input's bytes and writes the ledger page of the book after it, or `no n` where its line one is refused, from the start of output,
    where later bytes stay as they were; returns how many bytes it wrote. An output that is too short for them is refused: 0 is returned and nothing is

@@ -25,6 +25,13 @@ pub enum Stage {
     Ended,
 }
 
+/// An opening day with its units (document 02, Job 5).
+#[derive(Clone, Copy, Default)]
+pub struct Lot {
+    pub day: u64,
+    pub units: u64,
+}
+
 #[derive(Clone)]
 pub struct Account {
     pub overseas: bool,
@@ -32,9 +39,47 @@ pub struct Account {
     pub cash: i128,
     pub side: Side,
     pub units: u64,
-    pub opened: u64,
+    /// The first `lot_count` are in use, the oldest first.
+    pub lots: [Lot; 4],
+    pub lot_count: usize,
     pub heat: Option<u64>,
     pub offer: Option<u64>,
+}
+
+impl Account {
+    fn needs_fifth_day(&self, day: u64) -> bool {
+        self.lot_count == 4 && self.lots[3].day != day
+    }
+
+    fn add_units(&mut self, units: u64, day: u64) {
+        let n = self.lot_count;
+        if n == 0 || self.lots[n - 1].day != day {
+            self.lots[n] = Lot { day, units: 0 };
+            self.lot_count = n + 1;
+        }
+        self.lots[self.lot_count - 1].units += units;
+        self.units += units;
+    }
+
+    /// The oldest lots are used up first; one at 0 units goes.
+    fn use_up(&mut self, units: u64) {
+        let mut left = units;
+        let mut gone = 0;
+        for lot in self.lots[..self.lot_count].iter_mut() {
+            let part = left.min(lot.units);
+            lot.units -= part;
+            left -= part;
+            if lot.units == 0 {
+                gone += 1;
+            }
+        }
+        self.lots.copy_within(gone.., 0);
+        self.lot_count -= gone;
+        self.units -= units;
+        if self.units == 0 {
+            self.side = Side::Flat;
+        }
+    }
 }
 
 #[derive(Clone)]
@@ -239,7 +284,8 @@ impl Book {
             cash: 0,
             side: Side::Flat,
             units: 0,
-            opened: 0,
+            lots: [Lot::default(); 4],
+            lot_count: 0,
             heat: None,
             offer: None,
         });
@@ -270,13 +316,11 @@ impl Book {
         no(!(1..=1_000).contains(&units), 8)?;
         no(self.accounts[i].side == Side::Short || self.accounts[j].side == Side::Long, 9)?;
         no(self.accounts[i].units + units > 1_000 || self.accounts[j].units + units > 1_000, 10)?;
+        let day = self.day;
+        no(self.accounts[i].needs_fifth_day(day) || self.accounts[j].needs_fifth_day(day), 28)?;
         for (k, side) in [(i, Side::Long), (j, Side::Short)] {
-            let day = self.day;
             let a = &mut self.accounts[k];
-            if a.units == 0 {
-                a.opened = day;
-            }
-            a.units += units;
+            a.add_units(units, day);
             a.side = side;
         }
         Ok(0)
@@ -358,11 +402,7 @@ impl Book {
             stage: Stage::Paired,
         });
         for k in [buyer, seller] {
-            let a = &mut self.accounts[k];
-            a.units -= units;
-            if a.units == 0 {
-                a.side = Side::Flat;
-            }
+            self.accounts[k].use_up(units);
         }
         if !self.board {
             let mut left = units;
@@ -391,11 +431,13 @@ impl Book {
         (0..self.accounts.len()).filter(|&k| self.accounts[k].side == side).map(of).collect()
     }
 
-    fn walk(&mut self, mut buyers: Vec<(usize, u64)>, mut sellers: Vec<(usize, u64)>, bonded_only: bool) {
+    /// "Walk": the pairs of two lists, each a buyer, a seller and units.
+    fn walk(mut buyers: Vec<(usize, u64)>, mut sellers: Vec<(usize, u64)>) -> Vec<(usize, usize, u64)> {
+        let mut pairs = Vec::new();
         let (mut i, mut j) = (0, 0);
         while i < buyers.len() && j < sellers.len() {
             let units = buyers[i].1.min(sellers[j].1);
-            self.pair(buyers[i].0, sellers[j].0, units, 1, bonded_only);
+            pairs.push((buyers[i].0, sellers[j].0, units));
             buyers[i].1 -= units;
             sellers[j].1 -= units;
             if buyers[i].1 == 0 {
@@ -405,21 +447,41 @@ impl Book {
                 j += 1;
             }
         }
+        pairs
+    }
+
+    /// The overseas buyers' lots, "by day, then account number".
+    fn overseas_lots(&self) -> Vec<(usize, u64)> {
+        let mut lots = Vec::new();
+        for (k, a) in self.accounts.iter().enumerate() {
+            if a.overseas && a.side == Side::Long {
+                lots.extend(a.lots[..a.lot_count].iter().map(|lot| (lot.day, k, lot.units)));
+            }
+        }
+        lots.sort();
+        lots.iter().map(|&(_, k, units)| (k, units)).collect()
     }
 
     fn close(&mut self) -> Answer {
         no(!self.open, 5)?;
         let before = self.matches.len();
         if !self.board {
-            let mut buyers = self.on_side(Side::Long);
-            buyers.retain(|&(k, _)| self.accounts[k].overseas);
-            buyers.sort_by_key(|&(k, _)| (self.accounts[k].opened, k));
             let mut sellers = self.on_side(Side::Short);
             for s in sellers.iter_mut() {
                 s.1 = s.1.min(self.free_receipts(s.0, true));
             }
             sellers.retain(|s| s.1 > 0);
-            self.walk(buyers, sellers, true);
+            // "neighbouring units of one pair still make one match"
+            let mut joined: Vec<(usize, usize, u64)> = Vec::new();
+            for (buyer, seller, units) in Self::walk(self.overseas_lots(), sellers) {
+                match joined.last_mut() {
+                    Some(last) if last.0 == buyer && last.1 == seller => last.2 += units,
+                    _ => joined.push((buyer, seller, units)),
+                }
+            }
+            for (buyer, seller, units) in joined {
+                self.pair(buyer, seller, units, 1, true);
+            }
         }
         for k in 0..self.accounts.len() {
             if self.accounts[k].side == Side::Long {
@@ -430,7 +492,9 @@ impl Book {
                 }
             }
         }
-        self.walk(self.on_side(Side::Long), self.on_side(Side::Short), false);
+        for (buyer, seller, units) in Self::walk(self.on_side(Side::Long), self.on_side(Side::Short)) {
+            self.pair(buyer, seller, units, 1, false);
+        }
         for a in self.accounts.iter_mut() {
             a.offer = None;
         }

@@ -6,10 +6,10 @@ extern "C" {
 }
 
 /// Room for the output of every session.
-pub const ROOM: usize = 829_611;
+pub const ROOM: usize = 848_427;
 
 /// Room for every page.
-pub const PAGE_ROOM: usize = 17_220;
+pub const PAGE_ROOM: usize = 22_468;
 
 /// A whole session into a buffer of ROOM bytes, which is not cleared first; answers how many bytes it wrote.
 pub fn run(input: &[u8], out: &mut Vec<u8>) -> usize {

@@ -268,6 +268,18 @@ pub fn trade(mut book: Book, buyer: u64, seller: u64, units: u64) -> Outcome
         };
     }
     let day = book.day;
+    if rows::needs_fifth(bought, day) {
+        return Outcome {
+            answer: Answer::Refused(28),
+            book,
+        };
+    }
+    if rows::needs_fifth(sold, day) {
+        return Outcome {
+            answer: Answer::Refused(28),
+            book,
+        };
+    }
     accounts[i] = rows::units_on(bought, Side::Long, units, day);
     accounts[j] = rows::units_on(sold, Side::Short, units, day);
     book.accounts = accounts;

@@ -5,13 +5,13 @@ use lib.Dec.{ltb, leb, eqb}
 use lib.IntN.{pos}
 use lib.Signed.{ltZ}
 use Rattle.book.specs.Types.{Side, Heat, Offer, Account, Book, Outcome}
-use Rattle.book.specs.Rows.{units-on, is-long, is-short}
+use Rattle.book.specs.Rows.{no-lots, units-on, needs-fifth, is-long, is-short}
 use Rattle.book.specs.Tables.{account-at, put-account, add-account, with-deposited, pay, charge}
 use Rattle.book.specs.Answers.{refuse-if, accept}
 
--- "residence (0 domestic, 1 overseas), fitness (0 unfit, 1 fit)"; "It joins with cash 0, side none, opening day 0 and both missing."
+-- "residence (0 domestic, 1 overseas), fitness (0 unfit, 1 fit)"; "It joins with cash 0, side none, .. and both missing", and with no lot.
 abbrev pub new-account : ℕ → ℕ → Account
-new-account residence fitness = record { cash = pos 0; units = 0; opened = 0; heat = Heat.Missing; offer = Offer.Missing; side = Side.Flat; overseas = eqb residence 1; fit = eqb fitness 1 }
+new-account residence fitness = record { cash = pos 0; units = 0; lots = no-lots; heat = Heat.Missing; offer = Offer.Missing; side = Side.Flat; overseas = eqb residence 1; fit = eqb fitness 1 }
 
 -- "1 Join residence, fitness; carries the account number."
 unfoldable pub join : Book → ℕ → ℕ → Outcome
@@ -60,4 +60,6 @@ trade b buyer seller u =
     (refuse-if (is-long (account-at b seller .side)) 9 b
     (refuse-if (ltb 1_000 (account-at b buyer .units + u)) 10 b
     (refuse-if (ltb 1_000 (account-at b seller .units + u)) 10 b
-    (accept 0 (traded b buyer seller u)))))))))))
+    (refuse-if (needs-fifth (account-at b buyer .lots) (b .day)) 28 b
+    (refuse-if (needs-fifth (account-at b seller .lots) (b .day)) 28 b
+    (accept 0 (traded b buyer seller u)))))))))))))

@@ -1,14 +1,15 @@
 -- Demand 3, the statement, in the words of document 01, "Lists". Assumes nothing.
 use mathlib.Core.Path.{_≡_}
 use mathlib.Core.Bool.{Bool, true, false, _&&_}
-use mathlib.Core.List.{List, _∷_, _++_}
-use Prim.Native.Nat.{ℕ, _+_, _≤_, _<_, min}
+use mathlib.Core.List.{List, [], _∷_, _++_}
+use Prim.Native.Nat.{ℕ, zero, suc, _+_, _-_, _≤_, _<_, min}
 use lib.Dec.{eqb}
 use lib.IntN.{ℤ, pos, _+ℤ_, _-ℤ_}
+use lib.ListN.{getD}
 use Rattle.coal.specs.Choice.{pick}
-use Rattle.book.specs.Types.{ReceiptState, Stage, Book, Call}
+use Rattle.book.specs.Types.{ReceiptState, Stage, Lot, Book, Call}
 use Rattle.book.specs.Counting.{sum, total, tally}
-use Rattle.book.specs.Rows.{is-free, long-units, short-units, bonded-only}
+use Rattle.book.specs.Rows.{no-lot, lots-of, is-free, long-units, short-units, bonded-only}
 use Rattle.book.specs.Tables.{account-at, receipt-at, match-at, free-receipts, frozen-receipts}
 use Rattle.book.specs.Answers.{is-accepted}
 use Rattle.book.specs.Opening.{opening}
@@ -67,6 +68,20 @@ gave b e k =
 unfoldable pub gave-out : Book → Book → ℕ
 gave-out b e = sum (b .«account_count») 0 (λ k. pick (is-overseas-buyer b k) (gave b e k) 0)
 
+-- lot i of account k, counted from the oldest
+abbrev pub lot-at : Book → ℕ → ℕ → Lot
+lot-at b k i = getD (lots-of (account-at b k)) i no-lot
+
+-- of g units that count for these lots oldest first, those that count for lot i
+unfoldable pub counts-for : ℕ → List Lot → ℕ → ℕ
+counts-for g [] i = 0
+counts-for g (x ∷ xs) zero = min g (x .units)
+counts-for g (x ∷ xs) (suc i) = counts-for (g - x .units) xs i
+
+-- "what the first pass gave a buyer counts for its lots oldest first": what it gave lot i of account k
+abbrev pub lot-gave : Book → Book → ℕ → ℕ → ℕ
+lot-gave b e k i = counts-for (gave b e k) (lots-of (account-at b k)) i
+
 -- account k is an overseas account that is long in book b
 pub record OverseasBuyer (b : Book) (k : ℕ) : Type 0 where
   pub there : k < b .«account_count»
@@ -75,9 +90,8 @@ pub record OverseasBuyer (b : Book) (k : ℕ) : Type 0 where
 pub record FirstPass (b e : Book) : Type 0 where
   -- "its first pass gave out exactly the lesser of the overseas units open and the bonded units offered"
   pub lesser : gave-out b e ≡ min (overseas-units-open b) (bonded-units-offered b)
-  -- "If it gave an overseas buyer a unit, every overseas buyer with an older position had all of its units filled there."
-  -- "An older position is one with an earlier opening day." "A buyer is filled there when that count is all its units long just before Close."
-  pub older-filled : (k l : ℕ) → OverseasBuyer b k → OverseasBuyer b l → 0 < gave b e k → account-at b l .opened < account-at b k .opened → gave b e l ≡ account-at b l .units
+  -- "if a lot got a unit, every overseas lot of an earlier day had all of its units filled there"
+  pub older-filled : (k l i j : ℕ) → OverseasBuyer b k → OverseasBuyer b l → 0 < lot-gave b e k i → lot-at b l j .day < lot-at b k i .day → lot-gave b e l j ≡ lot-at b l j .units
 
 -- ---- receipts
 

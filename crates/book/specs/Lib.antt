@@ -14,5 +14,6 @@ pub mod Settlement
 pub mod Calls
 pub mod Entries
 pub mod Lists
+pub mod Ages
 pub mod Demand3
 pub mod laws

@@ -10,7 +10,7 @@ use Rattle.book.specs.Answers.{refuse-if, accept}
 
 -- "A fresh book": "Day is 0, market open, fund 0, deposits accepted 0, all else empty."
 abbrev pub fresh : Bool → ℕ → ℕ → ℕ → Book
-fresh board t r p = record { board = board; tonnes = t; rate = r; price = p; day = 0; «open» = true; fund = 0; deposited = 0; accounts = replicate 32 blank-account; «account_count» = 0; receipts = replicate 256 blank-receipt; «receipt_count» = 0; matches = replicate 128 blank-match; «match_count» = 0 }
+fresh board t r p = record { board = board; tonnes = t; rate = r; price = p; day = 0; «open» = true; fund = 0; deposited = 0; accounts = replicate 32 blank-account; «account_count» = 0; receipts = replicate 256 blank-receipt; «receipt_count» = 0; matches = replicate 256 blank-match; «match_count» = 0 }
 
 -- "a refused opening makes no book; where code must hand a value back beside it, that is the book of `0 0 1 0 1`"
 abbrev pub no-book : Book

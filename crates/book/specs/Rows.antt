@@ -1,15 +1,22 @@
 -- One account, one receipt, one match: the row of an unused cell, a row with one thing changed, and what a row is asked. Assumes nothing.
-use mathlib.Core.Bool.{Bool, true, false, _&&_}
+use mathlib.Core.Bool.{Bool, true, false, not, _&&_}
+use mathlib.Core.List.{List, [], _∷_}
 use Prim.Native.Nat.{ℕ, _+_, _-_}
-use lib.Dec.{eqb}
+use lib.Dec.{ltb, eqb}
 use lib.IntN.{ℤ, pos, _+ℤ_, _-ℤ_}
 use Rattle.coal.specs.Choice.{pick}
-use Rattle.book.specs.Types.{Side, Heat, Offer, ReceiptState, Stage, Account, Receipt, Match}
+use Rattle.book.specs.Types.{Side, Heat, Offer, ReceiptState, Stage, Lot, Lots, Account, Receipt, Match}
 
 -- ---- an unused cell: zeros and first cases, which is also what a read past a table's end gives
 
+abbrev pub no-lot : Lot
+no-lot = record { day = 0; units = 0 }
+
+abbrev pub no-lots : Lots
+no-lots = record { oldest = no-lot; second = no-lot; third = no-lot; newest = no-lot }
+
 abbrev pub blank-account : Account
-blank-account = record { cash = pos 0; units = 0; opened = 0; heat = Heat.Missing; offer = Offer.Missing; side = Side.Flat; overseas = false; fit = false }
+blank-account = record { cash = pos 0; units = 0; lots = no-lots; heat = Heat.Missing; offer = Offer.Missing; side = Side.Flat; overseas = false; fit = false }
 
 abbrev pub blank-receipt : Receipt
 blank-receipt = record { owner = 0; bonded = false; state = ReceiptState.Free }
@@ -20,16 +27,16 @@ blank-match = record { held = 0; price = 0; units = 0; due = 0; heat = Heat.Miss
 -- ---- an account
 
 abbrev pub with-cash : Account → ℤ → Account
-with-cash a z = record { cash = z; units = a .units; opened = a .opened; heat = a .heat; offer = a .offer; side = a .side; overseas = a .overseas; fit = a .fit }
+with-cash a z = record { cash = z; units = a .units; lots = a .lots; heat = a .heat; offer = a .offer; side = a .side; overseas = a .overseas; fit = a .fit }
 
-abbrev pub with-position : Account → Side → ℕ → ℕ → Account
-with-position a s u d = record { cash = a .cash; units = u; opened = d; heat = a .heat; offer = a .offer; side = s; overseas = a .overseas; fit = a .fit }
+abbrev pub with-position : Account → Side → ℕ → Lots → Account
+with-position a s u l = record { cash = a .cash; units = u; lots = l; heat = a .heat; offer = a .offer; side = s; overseas = a .overseas; fit = a .fit }
 
 abbrev pub with-heat : Account → Heat → Account
-with-heat a h = record { cash = a .cash; units = a .units; opened = a .opened; heat = h; offer = a .offer; side = a .side; overseas = a .overseas; fit = a .fit }
+with-heat a h = record { cash = a .cash; units = a .units; lots = a .lots; heat = h; offer = a .offer; side = a .side; overseas = a .overseas; fit = a .fit }
 
 abbrev pub with-offer : Account → Offer → Account
-with-offer a o = record { cash = a .cash; units = a .units; opened = a .opened; heat = a .heat; offer = o; side = a .side; overseas = a .overseas; fit = a .fit }
+with-offer a o = record { cash = a .cash; units = a .units; lots = a .lots; heat = a .heat; offer = o; side = a .side; overseas = a .overseas; fit = a .fit }
 
 -- "cash up by it"
 abbrev pub credited : Account → ℕ → Account
@@ -39,13 +46,41 @@ credited a x = with-cash a (a .cash +ℤ pos x)
 abbrev pub debited : Account → ℕ → Account
 debited a x = with-cash a (a .cash -ℤ pos x)
 
--- u units more on a side; "its opening day (when units last left 0 ..)"
-abbrev pub units-on : Account → Side → ℕ → ℕ → Account
-units-on a s u day = with-position a s (a .units + u) (pick (eqb (a .units) 0) day (a .opened))
+-- ---- lots: "An account now records up to four opening days with the units of each."
 
--- u units less; "a side at 0 units becomes none"; the opening day is "kept at side none"
+-- the four places, oldest first; one with 0 units is free
+abbrev pub lots-of : Account → List Lot
+lots-of a = a .lots .oldest ∷ a .lots .second ∷ a .lots .third ∷ a .lots .newest ∷ []
+
+-- u units opened on a day: on the newest lot's day they are added to that lot, else they are a new lot, in the free place of the oldest
+abbrev pub lots-on : Lots → ℕ → ℕ → Lots
+lots-on l u day =
+    pick (eqb (l .newest .day) day)
+    (record { oldest = l .oldest; second = l .second; third = l .third; newest = record { day = day; units = l .newest .units + u } })
+    (record { oldest = l .second; second = l .third; third = l .newest; newest = record { day = day; units = u } })
+
+-- "a trade would need a fifth opening day": the newest lot is of another day, and the oldest place is not free
+abbrev pub needs-fifth : Lots → ℕ → Bool
+needs-fifth l day = not (eqb (l .newest .day) day) && ltb 0 (l .oldest .units)
+
+-- a lot with u units less; at 0 units it goes and frees its place
+abbrev pub lot-off : Lot → ℕ → Lot
+lot-off x u = record { day = x .day; units = x .units - u }
+
+-- "use up the oldest first": u units less, of which each lot gives what the older ones did not
+abbrev pub lots-off : Lots → ℕ → Lots
+lots-off l u =
+    let v = u - l .oldest .units in
+    let w = v - l .second .units in
+    record { oldest = lot-off (l .oldest) u; second = lot-off (l .second) v; third = lot-off (l .third) w; newest = lot-off (l .newest) (w - l .third .units) }
+
+-- u units more on a side
+abbrev pub units-on : Account → Side → ℕ → ℕ → Account
+units-on a s u day = with-position a s (a .units + u) (lots-on (a .lots) u day)
+
+-- u units less; "a side at 0 units becomes none"
 abbrev pub units-off : Account → ℕ → Account
-units-off a u = with-position a (pick (eqb (a .units - u) 0) Side.Flat (a .side)) (a .units - u) (a .opened)
+units-off a u = with-position a (pick (eqb (a .units - u) 0) Side.Flat (a .side)) (a .units - u) (lots-off (a .lots) u)
 
 abbrev pub is-long : Side → Bool
 is-long Side.Flat = false

@@ -10,12 +10,15 @@ pub mod Freezing
 pub mod Pairing
 pub mod Walking
 pub mod Listing
+pub mod Joining
+pub mod Sharing
 pub mod Closing
 pub mod Taking
 pub mod Steps
 pub mod Journal
 pub mod Bound
 pub mod Reaching
+pub mod Ages
 pub mod Units
 pub mod Money
 pub mod Given

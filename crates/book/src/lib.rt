@@ -37,11 +37,25 @@ pub enum Stage {
     Ended,
 }
 
-// An account: cash in fen, units on its side, the day on which they last left 0, declared heat, standing offer.
+// A lot of a position: an opening day with its units.
+pub struct Lot {
+    pub day: u16,
+    pub units: u16,
+}
+
+// "up to four opening days with the units of each", in rising order of days; a place with 0 units is free.
+pub struct Lots {
+    pub oldest: Lot,
+    pub second: Lot,
+    pub third: Lot,
+    pub newest: Lot,
+}
+
+// An account: cash in fen, units on its side, the lots that they were opened in, declared heat, standing offer.
 pub struct Account {
     pub cash: i64,
     pub units: u16,
-    pub opened: u16,
+    pub lots: Lots,
     pub heat: Heat,
     pub offer: Offer,
     pub side: Side,
@@ -165,10 +179,11 @@ pub enum Call {
     },
 }
 
-// One of a list of buyers or sellers in Close: an account's number and the units left to it.
+// One of a list of buyers or sellers in Close: an account's number, the units left to it, and where it is a lot its day, else 0.
 pub struct Listed {
     pub account: u8,
     pub left: u16,
+    pub day: u16,
 }
 
 // What a search through a table finds: a row's number, or nothing.
@@ -192,9 +207,12 @@ pub struct Freezing {
 impl Book {
     pub const ACCOUNTS: usize = 32;
 
+    // four to an account
+    pub const LOTS: usize = 128;
+
     pub const RECEIPTS: usize = 256;
 
-    pub const MATCHES: usize = 128;
+    pub const MATCHES: usize = 256;
 
     // "Take stops at 64 matches"
     pub const TAKE_MATCHES: usize = 64;
@@ -203,10 +221,17 @@ impl Book {
     pub fn fresh(board: bool, tonnes: u64, rate: u64, price: u64) -> Book
         ensures { λ r. ⌜ r ≡ fresh board tonnes rate price ⌝ }
     {
+        let lot = Lot { day: 0, units: 0 };
+        let lots = Lots {
+            oldest: lot,
+            second: lot,
+            third: lot,
+            newest: lot,
+        };
         let account = Account {
             cash: 0,
             units: 0,
-            opened: 0,
+            lots,
             heat: Heat::Missing,
             offer: Offer::Missing,
             side: Side::Flat,
@@ -230,7 +255,7 @@ impl Book {
         };
         let accounts = [account; 32];
         let receipts = [receipt; 256];
-        let matches = [unmade; 128];
+        let matches = [unmade; 256];
         Book {
             board,
             tonnes,

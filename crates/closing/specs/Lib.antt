@@ -3,6 +3,7 @@ pub mod Queues
 pub mod Walks
 pub mod Lists
 pub mod Inserting
+pub mod Joins
 pub mod Bonded
 pub mod Second
 pub mod Passes

@@ -12,7 +12,7 @@ use Rattle.closing.specs.declared.Listing.{Listing}
 
 -- a cell that is not in use
 abbrev pub blank : Listed
-blank = record { account = 0; left = 0 }
+blank = record { account = 0; left = 0; day = 0 }
 
 -- the list that stands in an array
 abbrev pub listed : Listing → List Listed
@@ -24,12 +24,12 @@ There x = x .account < 32
 
 -- a list of accounts that fits its array
 pub record Numbered (l : Listing) : Type 0 where
-  pub few : l .count ≤ 32
+  pub few : l .count ≤ 128
   pub there : All There (listed l)
 
 -- the list that stands in an array is this one, and it is of accounts
 pub record Lists (l : List Listed) (r : Listing) : Type 0 where
-  pub few : r .count ≤ 32
+  pub few : r .count ≤ 128
   pub same : listed r ≡ l
   pub there : All There l
 
@@ -45,8 +45,8 @@ rest-none n i l h = drop-of-length-le (take n l) {i = i} (omega (arith, length-t
 
 -- n accounts stand in an array, and the front at i
 pub record Queue (n i : ℕ) (l : List Listed) : Type 0 where
-  pub few : n ≤ 32
-  pub size : length l ≡ 32
+  pub few : n ≤ 128
+  pub size : length l ≡ 128
   pub there : All There (slice i n l)
 
 module _ {n i : ℕ} {l : List Listed} (s : Queue n i l) (h : i < n) where

@@ -223,7 +223,7 @@ fn put_receipt_section(
 }
 
 fn put_match_section(out: &mut [u8], at: usize, rows: [Match; Book::MATCHES], count: usize) -> usize
-    requires { ⌜ (at + 41 + 41 * count ≤ length (now out)) × (count ≤ 128) ⌝ }
+    requires { ⌜ (at + 41 + 41 * count ≤ length (now out)) × (count ≤ 256) ⌝ }
     requires { ⌜ ((j : ℕ) → j < count → ((getD rows j blank-match .price < 100_000_000) × (getD rows j blank-match .held < 10_000_000_000_000_000))) ⌝ }
     ensures { λ r. ⌜ Put (now (out .entry)) (now (out .exit)) at r (page-section (bytes "matches") count (match-entry rows)) × (r ≤ at + 41 + 41 * count) ⌝ }
 {

@@ -5,6 +5,8 @@ pub mod Warehouse
 pub mod Offers
 pub mod ThreePasses
 pub mod OldestFirst
+pub mod Lots
+pub mod Places
 pub mod EnoughBonded
 pub mod Faults
 pub mod BoardFaults

@@ -99,7 +99,7 @@ unfolding
     tables.pay tables.charge tables.free-at tables.free-receipts tables.frozen-at tables.frozen-receipts opening next-day
     accounts.join accounts.deposit accounts.withdraw accounts.trade receipts.lodge receipts.strike pairing.freeze-turn pairing.freeze pairing.pair
     offers.declare offers.offer offers.retract offers.take-offer
-    closing.walk closing.pair-all closing.insert-by-day closing.in-order closing.overseas-buyers closing.bonded-sellers closing.buyers closing.sellers closing.first-pass
+    closing.walk closing.join-pair closing.joined closing.pair-all closing.insert-by-day closing.insert-lots closing.lots-in-order closing.overseas-lots closing.bonded-sellers closing.buyers closing.sellers closing.first-pass
     closing.equal-seller closing.second-turn closing.second-pass closing.third-pass closing.all-passes closing.lapse-turn closing.lapse-offers closing.close
     settlement.value settlement.seller-fault settlement.buyer-fault settlement.penalty settlement.punish settlement.release-turn settlement.free-again
     settlement.pass-turn settlement.pass-receipts settlement.settle-receipts settlement.settle-board settlement.settle-ended settlement.settled settlement.settle

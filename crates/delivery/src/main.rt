@@ -10,10 +10,10 @@ fn input_buffer() -> [u8; 65537]
 }
 
 // Room for the output of every session.
-fn output_buffer() -> [u8; 829611]
-    ensures { λ r. ⌜ 829611 ≡ length r ⌝ }
+fn output_buffer() -> [u8; 848427]
+    ensures { λ r. ⌜ 848427 ≡ length r ⌝ }
 {
-    [0; 829611]
+    [0; 848427]
 }
 
 fn main() {

@@ -7,7 +7,7 @@ ghost use Rattle.firmware.specs.Served.{Served};
 pub extern "C" fn delivery_session(input: &[u8], out: &mut [u8]) -> usize
     ensures { λ r. ⌜ Served (now (input .entry)) (now (out .entry)) (now (out .exit)) r ⌝ }
 {
-    if out.len() < 829_611 {
+    if out.len() < 848_427 {
         return 0;
     }
     session::session(input, out)

@@ -9,11 +9,11 @@ fn input_buffer() -> [u8; 65537]
     [0; 65537]
 }
 
-// Room for every page: 4 + 32 + 256 + 128 lines of 41 bytes.
-fn page_buffer() -> [u8; 17220]
-    ensures { λ r. ⌜ 17220 ≡ length r ⌝ }
+// Room for every page: 4 + 32 + 256 + 256 lines of 41 bytes.
+fn page_buffer() -> [u8; 22468]
+    ensures { λ r. ⌜ 22468 ≡ length r ⌝ }
 {
-    [0; 17220]
+    [0; 22468]
 }
 
 fn main() {

@@ -1,2 +1,3 @@
 pub mod Freezing
+pub mod Pairs
 pub mod Take

@@ -21,7 +21,7 @@ fn freeze(
     units: u64,
 ) -> [Receipt; Book::RECEIPTS]
     requires { ⌜ count ≤ 256 ⌝ }
-    requires { ⌜ number < 128 ⌝ }
+    requires { ⌜ number < 256 ⌝ }
     ensures { λ r. ⌜ r ≡ iter count 0 (freeze-turn bonded seller number) (record { receipts = receipts; left = units }) .receipts ⌝ }
 {
     let mut t = Freezing {
@@ -56,7 +56,7 @@ pub fn pair(
     requires { ⌜ book .price ≤ 1_000_000 ⌝ }
     requires { ⌜ book .day + days ≤ 10_000 ⌝ }
     requires { ⌜ book .«receipt_count» ≤ 256 ⌝ }
-    requires { ⌜ book .«match_count» < 128 ⌝ }
+    requires { ⌜ book .«match_count» < 256 ⌝ }
     ensures { λ r. ⌜ r ≡ pair book «bonded_only» days buyer seller units ⌝ }
 {
     let number = book.match_count;

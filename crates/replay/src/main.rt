@@ -10,10 +10,10 @@ fn input_buffer() -> [u8; 65537]
     [0; 65537]
 }
 
-fn output_buffer() -> [u8; 829611]
-    ensures { λ r. ⌜ 829611 ≡ length r ⌝ }
+fn output_buffer() -> [u8; 848427]
+    ensures { λ r. ⌜ 848427 ≡ length r ⌝ }
 {
-    [0; 829611]
+    [0; 848427]
 }
 
 // Reads a file's first bytes into a buffer, and answers how many there are; a file that cannot be read has none.
@@ -42,7 +42,7 @@ fn is_page(name: &[u8]) -> bool {
 
 // What is printed of a session, or its page: how many bytes it has.
 fn printed(input: &[u8], paged: bool, out: &mut [u8]) -> usize
-    requires { ⌜ 829611 ≤ length (now out) ⌝ }
+    requires { ⌜ 848427 ≤ length (now out) ⌝ }
     ensures { λ r. ⌜ Counts r (now (out .exit)) ⌝ }
 {
     if paged {

@@ -40,15 +40,19 @@ module _ (b : Book) (r : Reached b) where
   pub receipts-few : b .«receipt_count» ≤ 256
   receipts-few = s .tables .core .receipts .few
 
-  pub matches-few : b .«match_count» ≤ 126
+  pub matches-few : b .«match_count» ≤ 189
   matches-few = s .tables .matches-few
 
   -- a row that is there lies within its table, and its place in bytes fits a word
   pub account-there : (k : ℕ) → k < b .«account_count» → k < 32
   account-there k h = omega (arith, accounts-few)
 
-  pub account-place : (k : ℕ) → k < b .«account_count» → Fits w64 (k * 24)
+  pub account-place : (k : ℕ) → k < b .«account_count» → Fits w64 (k * 40)
   account-place k h = record { fits = omega (arith, account-there k h) }
+
+  -- a lot is part of its account's units
+  pub newest-small : (k : ℕ) → k < b .«account_count» → account-at b k .lots .newest .units ≤ account-at b k .units
+  newest-small k h = omega (arith, s .tables .core .accounts .rows k h .in-lots .whole)
 
   pub receipt-there : (i : ℕ) → i < b .«receipt_count» → i < 256
   receipt-there i h = omega (arith, receipts-few)
@@ -56,7 +60,7 @@ module _ (b : Book) (r : Reached b) where
   pub receipt-place : (i : ℕ) → i < b .«receipt_count» → Fits w64 (i * 4)
   receipt-place i h = record { fits = omega (arith, receipt-there i h) }
 
-  pub match-there : (j : ℕ) → j < b .«match_count» → j < 128
+  pub match-there : (j : ℕ) → j < b .«match_count» → j < 256
   match-there j h = omega (arith, matches-few)
 
   pub match-place : (j : ℕ) → j < b .«match_count» → Fits w64 (j * 24)
@@ -77,4 +81,4 @@ module _ (b : Book) (r : Reached b) where
   pub match-price-small : (j : ℕ) → j < b .«match_count» → match-at b j .price ≤ 1_000_000
   match-price-small j h = s .tables .core .matches .rows j h .price-high
 
-pub ruleset calls = (account-there, account-place, receipt-there, receipt-place, match-there, match-place, buyer-there, seller-there, held-small, match-units-small, match-price-small, tonnes-small, rate-small, price-small, day-small, deposits-fit, cash-small, accounts-few, receipts-few, matches-few, le-ltb, lt-ltb, le-leb, lt-leb, eq-eqb, ne-eqb, needs)
+pub ruleset calls = (account-there, account-place, newest-small, receipt-there, receipt-place, match-there, match-place, buyer-there, seller-there, held-small, match-units-small, match-price-small, tonnes-small, rate-small, price-small, day-small, deposits-fit, cash-small, accounts-few, receipts-few, matches-few, le-ltb, lt-ltb, le-leb, lt-leb, eq-eqb, ne-eqb, needs)

@@ -1,6 +1,6 @@
 // One row by value: an account, a receipt or a match, new, with one thing changed, or asked one thing. Numbers are narrowed to a row's fields here only.
 ghost use mathlib.Core.Path.{_≡_};
-ghost use Prim.Native.Nat.{_≤_, _<_, _+_};
+ghost use Prim.Native.Nat.{_≤_, _<_, _+_, _-_};
 ghost use lib.Dec.{eqb, ltb};
 ghost use lib.IntN.{natAbs, pos};
 ghost use lib.Signed.{ltZ};
@@ -9,11 +9,13 @@ ghost use Rattle.book.specs.declared.Offer.{Offer};
 ghost use Rattle.book.specs.declared.ReceiptState.{ReceiptState};
 ghost use Rattle.book.specs.declared.Stage.{Stage};
 ghost use Rattle.book.specs.Counting.{one-if};
-ghost use Rattle.book.specs.Rows.{with-position, with-heat, with-offer, credited, debited, units-on, units-off, is-long, is-short, long-units, short-units, heat-missing, heat-value, offer-missing, offer-units, with-state, is-free, is-frozen, is-struck, is-frozen-for, is-free-of, frozen-for, released, passed, with-held, is-paired, is-prepaid, is-held};
+ghost use Rattle.book.specs.Rows.{needs-fifth, lots-on, lot-off, lots-off, with-position, with-heat, with-offer, credited, debited, units-on, units-off, is-long, is-short, long-units, short-units, heat-missing, heat-value, offer-missing, offer-units, with-state, is-free, is-frozen, is-struck, is-frozen-for, is-free-of, frozen-for, released, passed, with-held, is-paired, is-prepaid, is-held};
 ghost use Rattle.book.specs.Accounts.{new-account};
 ghost use Rattle.book.specs.Receipts.{new-receipt};
 use book::Account;
 use book::Heat;
+use book::Lot;
+use book::Lots;
 use book::Match;
 use book::Offer;
 use book::Receipt;
@@ -23,14 +25,21 @@ use book::Stage;
 
 // ---- an account
 
-// "It joins with cash 0, side none, opening day 0 and both missing."
+// "It joins with cash 0, side none, .. and both missing", and with no lot.
 pub fn new_account(residence: u64, fitness: u64) -> Account
     ensures { λ r. ⌜ r ≡ new-account residence fitness ⌝ }
 {
+    let lot = Lot { day: 0, units: 0 };
+    let lots = Lots {
+        oldest: lot,
+        second: lot,
+        third: lot,
+        newest: lot,
+    };
     Account {
         cash: 0,
         units: 0,
-        opened: 0,
+        lots,
         heat: Heat::Missing,
         offer: Offer::Missing,
         side: Side::Flat,
@@ -121,16 +130,102 @@ pub fn would_pass(a: Account, units: u64) -> bool
     1_000 < a.units as u64 + units
 }
 
-// An account with another side, units and opening day.
-fn with_position(a: Account, side: Side, units: u16, opened: u16) -> Account
-    ensures { λ r. ⌜ r ≡ with-position a side units opened ⌝ }
+// "a trade would need a fifth opening day": the newest lot is of another day, and the oldest place is not free.
+pub fn needs_fifth(a: Account, day: u64) -> bool
+    ensures { λ r. ⌜ r ≡ needs-fifth (a .lots) day ⌝ }
+{
+    let lots = a.lots;
+    if lots.newest.day as u64 == day {
+        return false;
+    }
+    0 < lots.oldest.units
+}
+
+// The lots, with so many units opened on a day: in the newest lot on its own day, else in a new one, for which the free place of the oldest goes.
+fn lots_on(lots: Lots, units: u16, day: u16) -> Lots
+    requires { ⌜ lots .newest .units + units ≤ 1_000 ⌝ }
+    ensures { λ r. ⌜ r ≡ lots-on lots units day ⌝ }
+{
+    let oldest = lots.oldest;
+    let second = lots.second;
+    let third = lots.third;
+    let newest = lots.newest;
+    if newest.day == day {
+        let more = Lot {
+            day,
+            units: newest.units + units,
+        };
+        return Lots {
+            oldest,
+            second,
+            third,
+            newest: more,
+        };
+    }
+    let new = Lot { day, units };
+    Lots {
+        oldest: second,
+        second: third,
+        third: newest,
+        newest: new,
+    }
+}
+
+// A lot with so many units less, none where there are fewer.
+fn lot_off(lot: Lot, units: u64) -> Lot
+    ensures { λ r. ⌜ r ≡ lot-off lot units ⌝ }
+{
+    if lot.units as u64 <= units {
+        return Lot {
+            day: lot.day,
+            units: 0,
+        };
+    }
+    Lot {
+        day: lot.day,
+        units: lot.units - units as u16,
+    }
+}
+
+// What of so many units a lot did not give.
+fn beyond(units: u64, lot: Lot) -> u64
+    ensures { λ r. ⌜ r ≡ units - lot .units ⌝ }
+{
+    if units <= lot.units as u64 {
+        return 0;
+    }
+    units - lot.units as u64
+}
+
+// "use up the oldest first": the lots with so many units less, of which each gives what the older ones did not.
+fn lots_off(lots: Lots, units: u64) -> Lots
+    ensures { λ r. ⌜ r ≡ lots-off lots units ⌝ }
+{
+    let v = beyond(units, lots.oldest);
+    let w = beyond(v, lots.second);
+    let x = beyond(w, lots.third);
+    let oldest = lot_off(lots.oldest, units);
+    let second = lot_off(lots.second, v);
+    let third = lot_off(lots.third, w);
+    let newest = lot_off(lots.newest, x);
+    Lots {
+        oldest,
+        second,
+        third,
+        newest,
+    }
+}
+
+// An account with another side, units and lots.
+fn with_position(a: Account, side: Side, units: u16, lots: Lots) -> Account
+    ensures { λ r. ⌜ r ≡ with-position a side units lots ⌝ }
 {
     let heat = a.heat;
     let offer = a.offer;
     Account {
         cash: a.cash,
         units,
-        opened,
+        lots,
         heat,
         offer,
         side,
@@ -139,18 +234,15 @@ fn with_position(a: Account, side: Side, units: u16, opened: u16) -> Account
     }
 }
 
-// So many units more on a side; "its opening day (when units last left 0 ..)".
+// So many units more on a side, opened on a day.
 pub fn units_on(a: Account, side: Side, units: u64, day: u64) -> Account
     requires { ⌜ a .units + units ≤ 1_000 ⌝ }
+    requires { ⌜ a .lots .newest .units ≤ a .units ⌝ }
     requires { ⌜ day ≤ 1_000 ⌝ }
     ensures { λ r. ⌜ r ≡ units-on a side units day ⌝ }
 {
-    let total = a.units + units as u16;
-    let today = day as u16;
-    if a.units == 0 {
-        return with_position(a, side, total, today);
-    }
-    with_position(a, side, total, a.opened)
+    let lots = lots_on(a.lots, units as u16, day as u16);
+    with_position(a, side, a.units + units as u16, lots)
 }
 
 // So many units less, none where there are fewer; "a side at 0 units becomes none".
@@ -158,10 +250,11 @@ pub fn units_off(a: Account, units: u64) -> Account
     ensures { λ r. ⌜ r ≡ units-off a units ⌝ }
 {
     let side = a.side;
+    let lots = lots_off(a.lots, units);
     if a.units as u64 <= units {
-        return with_position(a, Side::Flat, 0, a.opened);
+        return with_position(a, Side::Flat, 0, lots);
     }
-    with_position(a, side, a.units - units as u16, a.opened)
+    with_position(a, side, a.units - units as u16, lots)
 }
 
 // The account, with this heat declared.
@@ -169,12 +262,13 @@ pub fn with_heat(a: Account, heat: u64) -> Account
     requires { ⌜ heat ≤ 10_000 ⌝ }
     ensures { λ r. ⌜ r ≡ with-heat a (Heat.Declared heat) ⌝ }
 {
+    let lots = a.lots;
     let offer = a.offer;
     let side = a.side;
     Account {
         cash: a.cash,
         units: a.units,
-        opened: a.opened,
+        lots,
         heat: Heat::Declared(heat as u16),
         offer,
         side,
@@ -187,12 +281,13 @@ pub fn with_heat(a: Account, heat: u64) -> Account
 fn with_offer(a: Account, offer: Offer) -> Account
     ensures { λ r. ⌜ r ≡ with-offer a offer ⌝ }
 {
+    let lots = a.lots;
     let heat = a.heat;
     let side = a.side;
     Account {
         cash: a.cash,
         units: a.units,
-        opened: a.opened,
+        lots,
         heat,
         offer,
         side,
@@ -365,7 +460,7 @@ pub fn struck(r: Receipt) -> Receipt
 
 // "frozen for a match"
 pub fn frozen_for(r: Receipt, number: u64) -> Receipt
-    requires { ⌜ number < 128 ⌝ }
+    requires { ⌜ number < 256 ⌝ }
     ensures { λ q. ⌜ q ≡ frozen-for number r ⌝ }
 {
     with_state(r, ReceiptState::Frozen(number as u8))

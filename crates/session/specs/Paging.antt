@@ -15,9 +15,9 @@ use Rattle.session.specs.Session.{outcome, Demanded}
 unfoldable pub page-output : List ℕ → List ℕ
 page-output s = pick (is-accepted (outcome s .answer)) (page (outcome s .book)) (answer-line (outcome s .answer))
 
--- the longest page: 4 + 32 + 256 + 128 lines of 41 bytes
+-- the longest page: 4 + 32 + 256 + 256 lines of 41 bytes
 abbrev pub page-room : ℕ
-page-room = 17_220
+page-room = 22_468
 
 -- how many bytes of a text are written into a lent buffer: all, or none where it is too short
 unfoldable pub lent-count : List ℕ → List ℕ → ℕ

@@ -95,7 +95,7 @@ pub record Followed (ls : List (List ℕ)) (b : Book) (wanted : Bool) (before ou
 
 -- 12 bytes for each byte of an input, 24 for line one, and the longest ledger
 abbrev pub room : ℕ
-room = 829_611
+room = 848_427
 
 -- the first r bytes of the output are the session's, and those after them are as before; and demand 3 holds of the calls that it ran
 pub record Delivered (input before out : List ℕ) (r : ℕ) : Type 0 where

@@ -150,7 +150,7 @@ deal-paid b f k x m v e d = rw e (omega arith)
 
 -- what settling match j of a book asks for, m its row and v its worth
 pub record Due (b : Book) (j : ℕ) (m : Match) (v : ℕ) : Type 0 where
-  pub number-there : j < 128
+  pub number-there : j < 256
   pub receipts-few : b .«receipt_count» ≤ 256
   pub rate-few : b .rate ≤ 100
   pub deal : Deal b m v

@@ -68,7 +68,7 @@ fn charge(mut book: Book, account: u8, amount: u64) -> Book
 
 // The book with so much money held for a match, and the match at a stage.
 fn set_stage(mut book: Book, number: u64, held: u64, stage: Stage) -> Book
-    requires { ⌜ number < 128 ⌝ }
+    requires { ⌜ number < 256 ⌝ }
     ensures { λ r. ⌜ r ≡ set-stage book number held stage ⌝ }
 {
     let j = number as usize;

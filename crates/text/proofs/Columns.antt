@@ -171,7 +171,7 @@ lined-length (more {rest = rest} c p) = simp length-append (omega (arith, c .cou
 
 -- ---- the page of a reached book
 
-pub few : {b : Book} → Reached b → (b .«account_count» ≤ 32) × (b .«receipt_count» ≤ 256) × (b .«match_count» ≤ 128)
+pub few : {b : Book} → Reached b → (b .«account_count» ≤ 32) × (b .«receipt_count» ≤ 256) × (b .«match_count» ≤ 256)
 few h = let t = sound h .tables .core in (t .accounts .few, t .receipts .few, t .matches .few)
 
 -- what the price and the money held of a match come to

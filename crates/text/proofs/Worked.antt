@@ -13,7 +13,7 @@ use Rattle.book.specs.declared.Match.{Match}
 use Rattle.book.specs.declared.Book.{Book}
 use Rattle.book.specs.declared.Answer.{Answer}
 use Rattle.book.specs.declared.Call.{Call}
-use Rattle.book.specs.Rows.{blank-account, blank-receipt, blank-match, with-cash, with-position}
+use Rattle.book.specs.Rows.{no-lots, blank-account, blank-receipt, blank-match, with-cash, with-position}
 use Rattle.text.specs.declared.lines.Line.{Line}
 use Rattle.text.specs.declared.lines.OpeningLine.{OpeningLine}
 use Rattle.text.specs.Text.{bytes}
@@ -60,7 +60,7 @@ worked =
       «account_count» = 2;
       receipts = record { owner = 1; bonded = true; state = ReceiptState.Free } ∷ record { owner = 0; bonded = false; state = ReceiptState.Frozen 1 } ∷ replicate 254 blank-receipt;
       «receipt_count» = 2;
-      matches = paired 600_000 Stage.Held ∷ paired 0 Stage.Paired ∷ replicate 126 blank-match;
+      matches = paired 600_000 Stage.Held ∷ paired 0 Stage.Paired ∷ replicate 254 blank-match;
       «match_count» = 2;
     }
 
@@ -83,7 +83,7 @@ unfolding digits last-digits right padded yuan each account-entry receipt-entry 
 page-printed = refl
 
 -- five fen below zero, and the most that `Sound` lets an account come to below it, which fits the field
-cash-printed : map (λ z. account-columns 31 (with-cash (with-position blank-account Side.Short 1_000 0) z)) (negsuc 4 ∷ negsuc 132_255_999_999_999_999 ∷ []) ≡ bytes " 31                 -0.05  short    1000" ∷ bytes " 31  -1322560000000000.00  short    1000" ∷ []
+cash-printed : map (λ z. account-columns 31 (with-cash (with-position blank-account Side.Short 1_000 no-lots) z)) (negsuc 4 ∷ negsuc 148_383_999_999_999_999 ∷ []) ≡ bytes " 31                 -0.05  short    1000" ∷ bytes " 31  -1483840000000000.00  short    1000" ∷ []
 unfolding digits last-digits right yuan
 cash-printed = refl
 

@@ -121,7 +121,7 @@ fn put_receipts(out: &mut [u8], at: usize, rows: [Receipt; Book::RECEIPTS], coun
 }
 
 fn put_matches(out: &mut [u8], at: usize, rows: [Match; Book::MATCHES], count: usize) -> usize
-    requires { ⌜ (at + 29 + 147 * count ≤ length (now out)) × (count ≤ 128) ⌝ }
+    requires { ⌜ (at + 29 + 147 * count ≤ length (now out)) × (count ≤ 256) ⌝ }
     ensures { λ r. ⌜ Put (now (out .entry)) (now (out .exit)) at r (section (bytes "matches") count (match-row rows)) × (r ≤ at + 29 + 147 * count) ⌝ }
 {
     let mut w = put_heading(out, at, b"matches", count as u64);
@@ -133,8 +133,8 @@ fn put_matches(out: &mut [u8], at: usize, rows: [Match; Book::MATCHES], count: u
 }
 
 pub fn put_ledger(out: &mut [u8], at: usize, book: Book) -> usize
-    requires { ⌜ (at + 43_155 ≤ length (now out)) × (book .«account_count» ≤ 32) × (book .«receipt_count» ≤ 256) × (book .«match_count» ≤ 128) ⌝ }
-    ensures { λ r. ⌜ Put (now (out .entry)) (now (out .exit)) at r (ledger book) × (r ≤ at + 43_155) ⌝ }
+    requires { ⌜ (at + 61_971 ≤ length (now out)) × (book .«account_count» ≤ 32) × (book .«receipt_count» ≤ 256) × (book .«match_count» ≤ 256) ⌝ }
+    ensures { λ r. ⌜ Put (now (out .entry)) (now (out .exit)) at r (ledger book) × (r ≤ at + 61_971) ⌝ }
 {
     let accounts = book.accounts;
     let receipts = book.receipts;

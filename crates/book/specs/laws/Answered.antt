@@ -8,7 +8,7 @@ use borrow.Author.Tests.{ltb-false, leb-false, eqb-true, eqb-false, not-false}
 use lib.IntN.{pos}
 use lib.Signed.{ltZ}
 use Rattle.book.specs.Types.{Heat, Offer, ReceiptState, Stage, Book, Outcome, Call}
-use Rattle.book.specs.Rows.{with-heat, with-offer, with-state, long-units, short-units, is-long, is-short, offer-missing, offer-units, heat-missing, is-struck, is-frozen, is-paired, is-prepaid, is-held, any-class}
+use Rattle.book.specs.Rows.{needs-fifth, with-heat, with-offer, with-state, long-units, short-units, is-long, is-short, offer-missing, offer-units, heat-missing, is-struck, is-frozen, is-paired, is-prepaid, is-held, any-class}
 use Rattle.book.specs.Tables.{account-at, receipt-at, match-at, add-account, add-receipt, put-account, put-receipt, with-deposited, with-day, with-open, pay, charge, free-receipts}
 use Rattle.book.specs.Answers.{refuse, refuse-if, accept}
 use Rattle.book.specs.Opening.{fresh, no-book, opening, next-day}
@@ -51,6 +51,8 @@ pub record MayTrade (b : Book) (buyer seller u : ℕ) : Type 0 where
   pub seller-side : is-long (account-at b seller .side) ≡ false
   pub buyer-few : account-at b buyer .units + u ≤ 1_000
   pub seller-few : account-at b seller .units + u ≤ 1_000
+  pub buyer-place : needs-fifth (account-at b buyer .lots) (b .day) ≡ false
+  pub seller-place : needs-fifth (account-at b seller .lots) (b .day) ≡ false
 
 pub record MayLodge (b : Book) (owner class : ℕ) : Type 0 where
   pub no-board : b .board ≡ false

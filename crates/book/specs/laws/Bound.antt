@@ -109,6 +109,6 @@ stage-few Stage.Held = omega arith
 stage-few Stage.Closed = omega arith
 stage-few Stage.Ended = omega arith
 
-pub stages-few : (b : Book) → SoundTables b → stages b ≤ 504
+pub stages-few : (b : Book) → SoundTables b → stages b ≤ 756
 unfolding stages
 stages-few b r = omega (arith, r .matches-few, sum-most (λ j. stage-number (match-at b j .stage)) 4 (b .«match_count») 0 (λ j. stage-few (match-at b j .stage)))

@@ -126,6 +126,12 @@ tally-two p q r (suc n) i h = omega (arith, h i (omega arith) (omega arith), tal
 pub tally-most : (p q : ℕ → Bool) (n i : ℕ) → ((k : ℕ) → i ≤ k → k < i + n → one-if (p k) ≤ one-if (q k)) → tally n i p ≤ tally n i q
 tally-most p q n i h = omega (arith, tally-two p (λ k. false) q n i (λ k a b. omega (arith, h k a b)))
 
+-- a test that holds only where one of two others does
+pub tally-either : (p q r : ℕ → Bool) (n i : ℕ) → ((k : ℕ) → i ≤ k → k < i + n → one-if (r k) ≤ one-if (p k) + one-if (q k)) → tally n i r ≤ tally n i p + tally n i q
+unfolding tally
+tally-either p q r zero i h = omega arith
+tally-either p q r (suc n) i h = omega (arith, h i (omega arith) (omega arith), tally-either p q r n (i + 1) (λ k a b. h k (omega arith) (omega arith)))
+
 pub tally-same : (p q : ℕ → Bool) (n i : ℕ) → ((k : ℕ) → i ≤ k → k < i + n → p k ≡ q k) → tally n i p ≡ tally n i q
 tally-same p q n i h = tally-sum p n i ∙ sum-same _ _ n i (λ k a b. ap one-if (h k a b)) ∙ sym (tally-sum q n i)
 
@@ -135,6 +141,16 @@ tally-none p n i h = tally-sum p n i ∙ sum-none _ n i (λ k a b. ap one-if (h 
 -- a test that holds where one of two others does, which exclude each other
 pub tally-plus : (p q r : ℕ → Bool) (n i : ℕ) → ((k : ℕ) → i ≤ k → k < i + n → one-if (p k) ≡ one-if (q k) + one-if (r k)) → tally n i p ≡ tally n i q + tally n i r
 tally-plus p q r n i h = omega (arith, tally-sum p n i, tally-sum q n i, tally-sum r n i, sum-plus (λ k. one-if (p k)) (λ k. one-if (q k)) (λ k. one-if (r k)) n i h)
+
+-- one number is met once
+pub tally-one : (a n i : ℕ) → tally n i (λ k. eqb a k) ≤ 1
+unfolding tally
+tally-one a zero i = omega arith
+tally-one a (suc n) i =
+    let r = tally-one a n (i + 1) in
+    by-eq a i
+    (λ e. omega (arith, one-most (eqb a i), tally-none (λ k. eqb a k) n (i + 1) (λ k x y. ne-eqb a k (λ q. absurd (omega arith)))))
+    (λ e. rw (ne-eqb a i e) (omega arith))
 
 -- ---- one number
 
@@ -154,6 +170,13 @@ only-split i k u v h = go (eqb i k)
     go : (t : Bool) → pick t (v - u) 0 + pick t u 0 ≡ pick t v 0
     go true = omega arith
     go false = omega arith
+
+pub only-plus : (i u v k : ℕ) → only i (u + v) k ≡ only i u k + only i v k
+only-plus i u v k = go (eqb i k)
+  where
+    go : (t : Bool) → pick t (u + v) 0 ≡ pick t u 0 + pick t v 0
+    go true = refl
+    go false = refl
 
 pub only-most : (i u k : ℕ) → only i u k ≤ u
 only-most i u k = by-pick (λ (x : ℕ). x ≤ u) (eqb i k) (λ e. omega arith) (λ e. omega arith)

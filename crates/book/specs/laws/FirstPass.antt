@@ -9,41 +9,52 @@ use native.Mathlib.Omega.{arith}
 use lib.Dec.{eqb, ltb}
 use borrow.Author.Tests.{ltb-false}
 use Rattle.coal.specs.Choice.{pick}
-use Rattle.book.specs.Types.{ReceiptState, Book, Call, Outcome, Listed}
+use Rattle.book.specs.Types.{ReceiptState, Lot, Book, Call, Outcome, Listed}
 use Rattle.book.specs.Counting.{those, sum}
-use Rattle.book.specs.Rows.{is-free, is-short, long-units, short-units, bonded-only}
+use Rattle.book.specs.Rows.{lots-of, is-free, is-short, long-units, short-units, bonded-only}
 use Rattle.book.specs.Tables.{account-at, receipt-at, with-open, free-receipts}
 use Rattle.book.specs.Answers.{is-accepted}
 use Rattle.book.specs.Pairing.{pair}
-use Rattle.book.specs.Closing.{use-up, is-buyer, is-seller, is-overseas-buyer, with-units, in-order, overseas-buyers, bonded-offer, bonded-sellers, first-pass, second-pass, third-pass, all-passes, lapse-offers}
+use Rattle.book.specs.Closing.{use-up, is-buyer, is-seller, is-overseas-buyer, overseas-lots, bonded-offer, bonded-sellers, first-pass, second-pass, third-pass, all-passes, lapse-offers}
 use Rattle.book.specs.Calls.{step}
+use Rattle.book.specs.Ages.{lots-total, older-lot}
 use Rattle.book.specs.Lists.{accepts}
-use Rattle.book.specs.Demand3.{overseas-units-open, bonded-units-offered, frozen-for-buyer, gave, gave-out, FirstPass}
+use Rattle.book.specs.Demand3.{overseas-units-open, bonded-units-offered, frozen-for-buyer, gave, gave-out, lot-at, counts-for, lot-gave, OverseasBuyer, FirstPass}
 use Rattle.book.specs.laws.Counting.{by-pick, by-eq, and-left, and-right, sum-same, sum-none, sum-change, tally-same, tally-none, sum-plus, only, only-here, only-else, impossible}
 use Rattle.book.specs.laws.Answered.{Answered, answered}
 use Rattle.book.specs.laws.Sound.{Core, SoundTables}
 use Rattle.book.specs.laws.Pairing.{Pairable, pairable-long, pairable-short, Paired, pair-core, paired-long, paired-short}
-use Rattle.book.specs.laws.Walking.{All, all-map, all-of, left-of, use-up-left, use-up-all, front-left, Passed}
-use Rattle.book.specs.laws.Listing.{those-all, order-all, Rising, rising-of, order-rising}
-use Rattle.book.specs.laws.Closing.{overseas-left, bonded-left, first-walk, later-keep}
+use Rattle.book.specs.laws.Walking.{All, sum-of, left-of, use-up-left, use-up-all, front-left}
+use Rattle.book.specs.laws.Listing.{those-all, lots-all, lots-counted, lots-rising}
+use Rattle.book.specs.laws.Joining.{joins-all}
+use Rattle.book.specs.laws.Sharing.{share, share-none, share-turn, shares-joined, older, older-first, rising-lots, got-some, got-nothing, got-all}
+use Rattle.book.specs.laws.Closing.{joined-lots, overseas-left, bonded-left, Firsted, first-walk, later-keep}
 use Rattle.book.specs.laws.Given.{Since, gave-none, since-pair, free-pair, gave-other, gave-nothing, first-gave, first-free}
 
 -- what account k offers of bonded receipts: the lesser of its short units and its free ones
 abbrev offering : Book → ℕ → ℕ
 offering z k = min (short-units (account-at z k)) (free-receipts z bonded-only k)
 
--- who is older than every listed account is not listed
-older-none : (f : ℕ → ℕ) (l : ℕ) (xs : List Listed) → All (λ (x : Listed). f l < f (x .account)) xs → left-of l xs ≡ 0
-unfolding left-of
-older-none f l [] h = refl
-older-none f l (x ∷ xs) h = omega (arith, older-none f l xs (h .1), only-else (x .account) (x .left) l (λ e. let z = ap f e in omega (arith, h .0)))
+nothing-left : (k : ℕ) → left-of k [] ≡ 0
+unfolding sum-of
+nothing-left k = refl
+
+-- older lots filled, in a book that gave each overseas buyer as much
+abbrev Filled : Book → Book → Type 0
+Filled b e = (k l i j : ℕ) → OverseasBuyer b k → OverseasBuyer b l → 0 < lot-gave b e k i → lot-at b l j .day < lot-at b k i .day → lot-gave b e l j ≡ lot-at b l j .units
+
+refilled : (b e z : Book) → ((k : ℕ) → OverseasBuyer b k → gave b e k ≡ gave b z k) → Filled b z → Filled b e
+refilled b e z s f k l i j o p g h =
+    let same : (k i : ℕ) → OverseasBuyer b k → lot-gave b e k i ≡ lot-gave b z k i = λ k i o. ap (λ (u : ℕ). counts-for u (lots-of (account-at b k)) i) (s k o) in
+    same l j p ∙ f k l i j o p (omega (arith, same k i o)) h
 
 module _ (b : Book) where
   abbrev n : ℕ
   n = b .«account_count»
 
-  abbrev day : ℕ → ℕ
-  day k = account-at b k .opened
+  -- the lots that the first pass lists
+  abbrev lots : List Listed
+  lots = overseas-lots b
 
   -- ---- what was given out, added up
 
@@ -75,14 +86,15 @@ module _ (b : Book) where
     pub since : Since b z
     pub filled : (k : ℕ) → k < n → is-overseas-buyer b k ≡ true → gave b z k + long-units (account-at z k) ≡ account-at b k .units
     pub out : gave-out b z + sum n 0 (offering z) ≡ bonded-units-offered b
-    pub older : (k l : ℕ) → l < n → is-overseas-buyer b l ≡ true → 0 < gave b z k → day l < day k → long-units (account-at z l) ≡ 0
 
   -- what every turn of its walk keeps
   record Walking (xs ys : List Listed) (z : Book) : Type 0 where
     pub giving : Giving z
     pub buyers : (k : ℕ) → k < n → account-at b k .overseas ≡ true → long-units (account-at z k) ≤ left-of k xs
     pub sellers : (k : ℕ) → k < n → offering z k ≡ left-of k ys
-    pub rising : Rising (λ (x : Listed). day (x .account)) xs
+    -- so many units were given out, from the front of the lots, and xs is what is left of them
+    pub given : ℕ
+    pub shared : (k g : ℕ) → share k (given + g) lots ≡ gave b z k + share k g xs
     pub members : All (λ (x : Listed). is-overseas-buyer b (x .account) ≡ true) xs
 
   walking-one : (x y : Listed) (xs ys : List Listed) (z : Book) → Core z → Pairable z (x .account) (y .account) (min (x .left) (y .left)) → Walking (x ∷ xs) (y ∷ ys) z
@@ -106,13 +118,13 @@ module _ (b : Book) where
           since = since-pair b z bonded-only i j u s r p;
           filled = λ k h e. omega (arith, v .filled k h e, gives k, long k, pairable-long p k);
           out = omega (arith, v .out, offers j, only-here j u);
-          older = λ k l h e g d. by-eq k i
-              (λ q. let a : day l < day i = rw q at d in omega (arith, long l, w .buyers l h (and-left (account-at b l .overseas) _ e), older-none day l (x ∷ xs) (a, all-map (λ (y : Listed). day i ≤ day (y .account)) (λ (y : Listed). day l < day (y .account)) xs (λ y o. omega arith) (w .rising .0))))
-              (λ q. omega (arith, long l, v .older k l h e (omega (arith, gives k, only-else i u k q)) d));
         };
         buyers = λ k h e. omega (arith, w .buyers k h e, long k, use-up-left u x xs k (omega arith));
         sellers = λ k h. omega (arith, w .sellers k h, offers k, use-up-left u y ys k (omega arith));
-        rising = by-pick (Rising (λ (x : Listed). day (x .account))) (eqb (x .left - u) 0) (λ e. w .rising .1) (λ e. w .rising);
+        given = w .given + u;
+        shared = λ k g.
+            let a : w .given + u + g ≡ w .given + (u + g) = omega arith in
+            rw a (omega (arith, w .shared k (u + g), gives k, share-turn k u g x xs (omega arith)));
         members = use-up-all u x xs (λ (x : Listed). is-overseas-buyer b (x .account) ≡ true) (λ g. w .members .0) (w .members .1);
       }
 
@@ -126,27 +138,24 @@ module _ (b : Book) where
       go k true = refl
       go k false = omega arith
 
-  start-rising : Rising (λ (x : Listed). day (x .account)) (overseas-buyers b)
-  unfolding overseas-buyers
-  start-rising = rising-of (λ (x : Listed). day (x .account)) (with-units b) (in-order b (those n 0 (is-overseas-buyer b))) (order-rising b (those n 0 (is-overseas-buyer b)))
-
-  start-members : All (λ (x : Listed). is-overseas-buyer b (x .account) ≡ true) (overseas-buyers b)
-  unfolding overseas-buyers
+  start-members : All (λ (x : Listed). is-overseas-buyer b (x .account) ≡ true) (joined-lots b)
+  unfolding overseas-lots
   start-members =
-      all-of (λ (x : Listed). is-overseas-buyer b (x .account) ≡ true) (with-units b) (in-order b (those n 0 (is-overseas-buyer b)))
-      (order-all (λ k. is-overseas-buyer b k ≡ true) b (those n 0 (is-overseas-buyer b)) (those-all (λ k. is-overseas-buyer b k ≡ true) (is-overseas-buyer b) n 0 (λ k x y e. e)))
+      let p = is-overseas-buyer b in
+      joins-all (λ (x : Listed). p (x .account) ≡ true) (λ x y h g. h) lots
+      (lots-all (λ (x : Listed). p (x .account) ≡ true) b (those n 0 p) (those-all (λ k. (x : Lot) → 0 < x .units → p k ≡ true) p n 0 (λ k i j e x h. e)))
 
-  walking-start : b .board ≡ false → Walking (overseas-buyers b) (bonded-sellers b) b
-  walking-start nb = record {
+  walking-start : b .board ≡ false → Core b → Walking (joined-lots b) (bonded-sellers b) b
+  walking-start nb r = record {
     giving = record {
       since = record { accounts = refl; receipts = refl; overseas = λ k. refl; bonded = λ k h. refl; free = λ k h e. e };
       filled = λ k h e. rw (gave-none b k, and-right (account-at b k .overseas) (is-buyer b k) e) (omega arith);
       out = omega (arith, out-none b (gave-none b), all-offered nb);
-      older = λ k l h e g d. absurd (omega (arith, gave-none b k));
     };
-    buyers = λ k h e. rw (overseas-left b k h, e) (omega arith);
+    buyers = λ k h e. rw (overseas-left b r k h, e) (omega arith);
     sellers = λ k h. go k (is-short (account-at b k .side)) (ltb 0 (bonded-offer b k)) refl ∙ sym (bonded-left b k h);
-    rising = start-rising;
+    given = 0;
+    shared = λ k g. let a : 0 + g ≡ g = omega arith in rw (a, gave-none b k, shares-joined k g lots) (omega arith);
     members = start-members;
   }
     where
@@ -161,16 +170,22 @@ module _ (b : Book) where
   abbrev Over : Book → Type 0
   Over z = ((k : ℕ) → k < n → account-at b k .overseas ≡ true → long-units (account-at z k) ≡ 0) ⊎ ((k : ℕ) → k < n → offering z k ≡ 0)
 
+  -- each account got its share of the units that were given out from the front of the lots
   record Walked (z : Book) : Type 0 where
     pub giving : Giving z
     pub over : Over z
+    pub given : ℕ
+    pub shared : (k : ℕ) → gave b z k ≡ share k given lots
 
-  first-done : b .board ≡ false → b .«match_count» ≤ 64 → Core b → Passed Walked n (b .«match_count») (b .«match_count» + 31) (first-pass b)
+  walked : {xs ys : List Listed} {z : Book} → Walking xs ys z → Over z → Walked z
+  walked {xs} {ys} {z} w o = record { giving = w .giving; over = o; given = w .given; shared = λ k. let a : w .given + 0 ≡ w .given = omega arith in omega (arith, rw a at (w .shared k 0), share-none k xs) }
+
+  first-done : b .board ≡ false → b .«match_count» ≤ 64 → Core b → Firsted Walked b (first-pass b)
   first-done nb m r =
       first-walk Walking Walked walking-one
-      (λ ys z c w. record { giving = w .giving; over = inl (λ k h e. omega (arith, w .buyers k h e, older-none day k [] tt)) })
-      (λ xs z c w. record { giving = w .giving; over = inr (λ k h. w .sellers k h ∙ older-none day k [] tt) })
-      b m r (λ q. impossible (cc)) walking-start
+      (λ ys z c w. walked w (inl (λ k h e. omega (arith, w .buyers k h e, nothing-left k))))
+      (λ xs z c w. walked w (inr (λ k h. w .sellers k h ∙ nothing-left k)))
+      b m r (λ q. impossible (cc)) (λ q. walking-start q r)
 
   -- the units of overseas buyers that are open yet
   abbrev still-open : Book → ℕ → ℕ
@@ -222,19 +237,31 @@ module _ (b : Book) where
 
   -- ---- the whole of Close
 
+  -- the units of lots of an earlier day than d, in the list and by account
+  older-listed : (d k : ℕ) → k < n → is-overseas-buyer b k ≡ true → sum-of (older d) k lots ≡ lots-total (older-lot d) (lots-of (account-at b k))
+  unfolding overseas-lots
+  older-listed d k h o = lots-counted (older d) (λ x e. by-pick (λ (u : ℕ). u ≡ 0) (ltb (x .day) d) (λ t. e) (λ t. refl)) k b (is-overseas-buyer b) n h ∙ rw o
+
+  -- a lot that got a unit, and one of an earlier day
+  lots-filled : Core b → {z : Book} → Walked z → Filled b z
+  unfolding overseas-lots
+  lots-filled r {z} w k l i j o p h e =
+      let d = lot-at b k i .day in
+      let more = got-some (gave b z k) (lots-of (account-at b k)) i (rising-lots (r .accounts .rows k (o .there))) h in
+      let all = older-first k l d (w .given) lots (lots-rising b (those n 0 (is-overseas-buyer b))) (omega (arith, older-listed d k (o .there) (o .overseas-and-long), w .shared k)) in
+      got-all (gave b z l) d (lots-of (account-at b l)) j (rising-lots (r .accounts .rows l (p .there))) (omega (arith, older-listed d l (p .there) (p .overseas-and-long), w .shared l)) e
+
   passes-hold : b .board ≡ false → b .«match_count» ≤ 64 → Core b → FirstPass b (all-passes b)
   unfolding all-passes
   passes-hold nb m r =
       let f = first-pass b in
       let d = first-done nb m r in
-      let w = d .kept in
-      let v = w .giving in
-      let l = later-keep (Later f) (later-one f) (b .«match_count») f m (d .high-count) (d .core) (record { since = v .since; same = λ k h o. refl; over = w .over }) .kept in
+      let w = d .kept .0 in
+      let l = later-keep (Later f) (later-one f) (b .«match_count») f m (d .high-count) (d .kept .1) (d .core) (record { since = w .giving .since; same = λ k h o. refl; over = w .over }) .kept in
+      let same : (k : ℕ) → OverseasBuyer b k → gave b (all-passes b) k ≡ gave b f k = λ k o. l .same k (o .there) (and-left (account-at b k .overseas) _ (o .overseas-and-long)) in
       record {
         lesser = out-same f (third-pass (second-pass f)) (l .same) ∙ walked-lesser w;
-        older-filled = λ k m o p g h.
-            let x = l .same k (o .there) (and-left (account-at b k .overseas) _ (o .overseas-and-long)) in
-            omega (arith, l .same m (p .there) (and-left (account-at b m .overseas) _ (p .overseas-and-long)), v .filled m (p .there) (p .overseas-and-long), v .older k m (p .there) (p .overseas-and-long) (omega arith) h);
+        older-filled = refilled b (all-passes b) f same (lots-filled r w);
       }
 
 -- in a board book there is nothing to give
@@ -249,7 +276,7 @@ board-none b q = by-pick (λ (v : ℕ). v ≡ 0) (b .board) (λ e. refl) (λ e. 
 board-holds : (b e : Book) → b .board ≡ true → Core b → FirstPass b e
 board-holds b e q r =
     let none : (k : ℕ) → gave b e k ≡ 0 = λ k. no-receipts b e k (r .receipts .none q) in
-    record { lesser = omega (arith, out-none b e none, board-none b q); older-filled = λ k l o p g h. absurd (omega (arith, none k)) }
+    record { lesser = omega (arith, out-none b e none, board-none b q); older-filled = λ k l i j o p g h. absurd (omega (arith, ap (λ (u : ℕ). counts-for u (lots-of (account-at b k)) i) (none k), got-nothing (lots-of (account-at b k)) i)) }
 
 -- the demand reads the receipts and the matches
 lapse-gave : (b z : Book) (k : ℕ) → gave b (with-open (lapse-offers z) false) k ≡ gave b z k
@@ -264,7 +291,7 @@ lapse-gave b z k = tally-same _ _ (b .«receipt_count») 0 (λ i x y. ap (λ (t 
 lapse-holds : (b z : Book) → FirstPass b z → FirstPass b (with-open (lapse-offers z) false)
 lapse-holds b z f = record {
   lesser = out-same b z (with-open (lapse-offers z) false) (λ k h o. lapse-gave b z k) ∙ f .lesser;
-  older-filled = λ k l o p g h. lapse-gave b z l ∙ f .older-filled k l o p (omega (arith, lapse-gave b z k)) h;
+  older-filled = refilled b (with-open (lapse-offers z) false) z (λ k o. lapse-gave b z k) (f .older-filled);
 }
 
 closed-holds : {b : Book} {o : Outcome} → Answered b Call.Close o → SoundTables b → is-accepted (o .answer) ≡ true → FirstPass b (o .book)

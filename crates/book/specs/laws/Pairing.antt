@@ -11,13 +11,13 @@ use lib.ListN.{getD, set, length-set}
 use lib.Seq.{getD-set-same, getD-set-other}
 use borrow.Author.Tests.{eqb-true, eqb-false}
 use Rattle.coal.specs.Choice.{pick}
-use Rattle.book.specs.Types.{Side, Heat, Stage, Account, Receipt, Match, Book}
+use Rattle.book.specs.Types.{Side, Heat, Stage, Lots, Account, Receipt, Match, Book}
 use Rattle.book.specs.Counting.{sum}
-use Rattle.book.specs.Rows.{blank-account, blank-receipt, blank-match, with-position, units-off, is-long, is-short, long-units, short-units, frozen-for}
+use Rattle.book.specs.Rows.{blank-account, blank-receipt, blank-match, with-position, lots-off, units-off, is-long, is-short, long-units, short-units, frozen-for}
 use Rattle.book.specs.Tables.{account-at, receipt-at, match-at, add-match, with-receipts}
 use Rattle.book.specs.Pairing.{taken, take-units, new-match, freeze, pair}
 use Rattle.book.specs.laws.Counting.{by-pick, by-eq, at-set, sum-set, only, only-here, only-else, impossible}
-use Rattle.book.specs.laws.Sound.{SoundAccount, SoundMatch, ReceiptTable, Core}
+use Rattle.book.specs.laws.Sound.{SoundLots, SoundAccount, SoundMatch, ReceiptTable, Core}
 use Rattle.book.specs.laws.Tables.{account-placed, matches-add, core-put, None-frozen, not-frozen, receipts-rematched}
 use Rattle.book.specs.laws.Freezing.{newly, frozen-row, frozen-sound}
 
@@ -31,7 +31,7 @@ pub record Pairable (b : Book) (buyer seller u : ℕ) : Type 0 where
   pub some : 0 < u
   pub buyer-has : u ≤ account-at b buyer .units
   pub seller-has : u ≤ account-at b seller .units
-  pub room : b .«match_count» < 128
+  pub room : b .«match_count» < 256
 
 pairable-two : {b : Book} {buyer seller u : ℕ} → Pairable b buyer seller u → buyer ≢ seller
 pairable-two h e = impossible (cc)
@@ -48,7 +48,7 @@ short-side Side.Long x u h g = absurd (omega arith)
 short-side Side.Short x u h g = (refl, g)
 
 pub pairable : (b : Book) (buyer seller u : ℕ) → buyer < b .«account_count» → seller < b .«account_count» → 0 < u → u ≤ long-units (account-at b buyer) → u ≤ short-units (account-at b seller)
-    → b .«match_count» < 128 → Pairable b buyer seller u
+    → b .«match_count» < 256 → Pairable b buyer seller u
 pairable b buyer seller u h g s l m r =
     let x = long-side (account-at b buyer .side) (account-at b buyer .units) u s l in
     let y = short-side (account-at b seller .side) (account-at b seller .units) u s m in
@@ -63,12 +63,46 @@ pairable-short {b} {buyer} {seller} {u} p k = by-eq k seller (λ e. rw (e, only-
 
 -- ---- it keeps what holds of the tables
 
+-- the oldest lots first: of two lots one after the other, and of two parts of u
+two-off : (x y u : ℕ) → x - u + (y - (u - x)) ≡ x + y - u
+two-off x y u = omega arith
+
+off-off : (u x y : ℕ) → u - x - y ≡ u - (x + y)
+off-off u x y = omega arith
+
+some-off : (x u : ℕ) → 0 < x - u → 0 < x
+some-off x u h = omega arith
+
+next-off : (x y u : ℕ) → (0 < x → 0 < y) → 0 < x - u → 0 < y - (u - x)
+next-off x y u f h = let g = f (some-off x u h) in omega arith
+
+off-whole : (x y z w u : ℕ) → x - u + (y - (u - x)) + (z - (u - x - y)) + (w - (u - x - y - z)) ≡ x + y + z + w - u
+off-whole x y z w u = rw (two-off x y u, off-off u x y, two-off (x + y) z u, off-off u (x + y) z, two-off (x + y + z) w u)
+
+off-lots : {day n : ℕ} (l : Lots) (u : ℕ) → SoundLots day n l → SoundLots day (n - u) (lots-off l u)
+off-lots l u r = record {
+  whole = rw (← r .whole) (off-whole (l .oldest .units) (l .second .units) (l .third .units) (l .newest .units) u);
+  second-day = r .second-day;
+  third-day = r .third-day;
+  newest-day = r .newest-day;
+  past = r .past;
+  second-later = λ h. r .second-later (some-off _ _ h);
+  third-later = λ h. r .third-later (some-off _ _ h);
+  newest-later = λ h. r .newest-later (some-off _ _ h);
+  second-taken = next-off _ _ _ (r .second-taken);
+  third-taken = next-off _ _ _ (r .third-taken);
+  newest-taken = next-off _ _ _ (r .newest-taken);
+}
+
 off-sound : {day : ℕ} (a : Account) (u : ℕ) → SoundAccount day a → SoundAccount day (units-off a u)
 off-sound {day} a u r = go (eqb (a .units - u) 0) refl
   where
-    go : (t : Bool) → eqb (a .units - u) 0 ≡ t → SoundAccount day (with-position a (pick t Side.Flat (a .side)) (a .units - u) (a .opened))
-    go true e = account-placed r (omega (arith, r .few)) (λ h. eqb-true _ _ e) (λ h. impossible (cc)) (λ h. impossible (cc)) (r .past)
-    go false e = let n = eqb-false (a .units - u) 0 e in account-placed r (omega (arith, r .few)) (λ h. omega (arith, r .flat-none h)) (λ h. omega arith) (λ h. omega arith) (r .past)
+    lots : SoundLots day (a .units - u) (lots-off (a .lots) u)
+    lots = off-lots (a .lots) u (r .in-lots)
+
+    go : (t : Bool) → eqb (a .units - u) 0 ≡ t → SoundAccount day (with-position a (pick t Side.Flat (a .side)) (a .units - u) (lots-off (a .lots) u))
+    go true e = account-placed r (omega (arith, r .few)) (λ h. eqb-true _ _ e) (λ h. impossible (cc)) (λ h. impossible (cc)) lots
+    go false e = let n = eqb-false (a .units - u) 0 e in account-placed r (omega (arith, r .few)) (λ h. omega (arith, r .flat-none h)) (λ h. omega arith) (λ h. omega arith) lots
 
 -- no receipt is frozen for a match that is not there yet
 beyond-none : {n m : ℕ} {ms : List Match} {board : Bool} {count : ℕ} {l : List Receipt} → ReceiptTable n m ms board count l → None-frozen count l m
@@ -84,7 +118,7 @@ new-sound b days buyer seller u d p r =
     unpaid : {A : Type 0} → Stage.Paired ≡ Stage.Prepaid → A
     unpaid e = impossible (cc)
 
-core-match : (b : Book) (c : Match) → b .«match_count» < 128 → SoundMatch (b .«account_count») (b .day) (b .tonnes) (b .board) c → Core b → Core (add-match b c)
+core-match : (b : Book) (c : Match) → b .«match_count» < 256 → SoundMatch (b .«account_count») (b .day) (b .tonnes) (b .board) c → Core b → Core (add-match b c)
 core-match b c h m r =
     let l = receipts-rematched (b .«match_count» + 1) (b .«match_count») c (omega arith) (λ k g d. omega arith) (beyond-none (r .receipts)) (r .receipts) in
     search matches-add

@@ -6,12 +6,30 @@ use mathlib.Core.List.{List}
 use Prim.Native.Nat.{ℕ, _+_, _*_, _≤_, _<_}
 use lib.ListN.{length, getD}
 use lib.IntN.{natAbs}
-use Rattle.book.specs.Types.{Side, Heat, Offer, ReceiptState, Stage, Account, Receipt, Match, Book}
+use Rattle.book.specs.Types.{Side, Heat, Offer, ReceiptState, Stage, Lots, Account, Receipt, Match, Book}
 use Rattle.book.specs.Counting.{tally}
 use Rattle.book.specs.Rows.{blank-account, blank-receipt, blank-match, short-units}
 use Rattle.book.specs.Tables.{account-at, frozen-at}
 
 -- ---- rows
+
+-- the lots of an account with so many units, at this day
+pub record SoundLots (day units : ℕ) (l : Lots) : Type 0 where
+  -- their units are the account's
+  pub whole : l .oldest .units + l .second .units + l .third .units + l .newest .units ≡ units
+  -- the days rise, and none is to come
+  pub second-day : l .oldest .day ≤ l .second .day
+  pub third-day : l .second .day ≤ l .third .day
+  pub newest-day : l .third .day ≤ l .newest .day
+  pub past : l .newest .day ≤ day
+  -- two lots are of two days
+  pub second-later : 0 < l .oldest .units → l .oldest .day < l .second .day
+  pub third-later : 0 < l .second .units → l .second .day < l .third .day
+  pub newest-later : 0 < l .third .units → l .third .day < l .newest .day
+  -- free places come before the lots
+  pub second-taken : 0 < l .oldest .units → 0 < l .second .units
+  pub third-taken : 0 < l .second .units → 0 < l .third .units
+  pub newest-taken : 0 < l .third .units → 0 < l .newest .units
 
 -- an account of a book at this day
 pub record SoundAccount (day : ℕ) (a : Account) : Type 0 where
@@ -20,8 +38,7 @@ pub record SoundAccount (day : ℕ) (a : Account) : Type 0 where
   pub flat-none : a .side ≡ Side.Flat → a .units ≡ 0
   pub long-some : a .side ≡ Side.Long → 0 < a .units
   pub short-some : a .side ≡ Side.Short → 0 < a .units
-  -- "its opening day" is not to come
-  pub past : a .opened ≤ day
+  pub in-lots : SoundLots day (a .units) (a .lots)
   pub heat-low : (h : ℕ) → a .heat ≡ Heat.Declared h → 4_300 ≤ h
   pub heat-high : (h : ℕ) → a .heat ≡ Heat.Declared h → h ≤ 10_000
 
@@ -82,8 +99,8 @@ pub record AccountTable (day count : ℕ) (l : List Account) : Type 0 where
   pub rows : (k : ℕ) → k < count → SoundAccount day (getD l k blank-account)
 
 pub record MatchTable (accounts day tonnes : ℕ) (board : Bool) (count : ℕ) (l : List Match) : Type 0 where
-  pub size : length l ≡ 128
-  pub few : count ≤ 128
+  pub size : length l ≡ 256
+  pub few : count ≤ 256
   pub rows : (j : ℕ) → j < count → SoundMatch accounts day tonnes board (getD l j blank-match)
 
 pub record ReceiptTable (accounts matches : ℕ) (ms : List Match) (board : Bool) (count : ℕ) (l : List Receipt) : Type 0 where
@@ -109,12 +126,12 @@ Offers b = (k : ℕ) → k < b .«account_count» → SoundOffer (account-at b k
 pub record SoundTables (b : Book) : Type 0 where
   pub core : Core b
   pub offers : Offers b
-  -- "Take stops at 64 matches; Close makes at most 62"
-  pub matches-few : b .«match_count» ≤ 126
+  -- "Close can now make up to 125 matches .. and Take still stops at 64"
+  pub matches-few : b .«match_count» ≤ 189
   pub matches-open : b .«open» ≡ true → b .«match_count» ≤ 64
 
 -- what holds of every reached book
 pub record Sound (b : Book) : Type 0 where
   pub tables : SoundTables b
-  pub cash-few : (k : ℕ) → natAbs (account-at b k .cash) ≤ 132_256_000_000_000_000
-  pub fund-few : b .fund ≤ 32_256_000_000_000_000
+  pub cash-few : (k : ℕ) → natAbs (account-at b k .cash) ≤ 148_384_000_000_000_000
+  pub fund-few : b .fund ≤ 48_384_000_000_000_000

@@ -8,12 +8,12 @@ use native.Mathlib.Omega.{arith}
 use lib.ListN.{length, getD, set, length-set}
 use lib.Seq.{getD-set-other}
 use borrow.Author.Tests.{eqb-false, ne-eqb}
-use Rattle.book.specs.Types.{Side, Offer, ReceiptState, Account, Receipt, Match, Book}
+use Rattle.book.specs.Types.{Side, Offer, ReceiptState, Lots, Account, Receipt, Match, Book}
 use Rattle.book.specs.Counting.{one-if}
 use Rattle.book.specs.Rows.{blank-account, blank-receipt, blank-match, is-frozen-for, is-frozen, with-position}
 use Rattle.book.specs.Tables.{put-account, with-receipts, frozen-at}
 use Rattle.book.specs.laws.Counting.{by-eq, rows-set, rows-add, tally-sum, tally-none, sum-set, sum-add, impossible}
-use Rattle.book.specs.laws.Sound.{SoundAccount, SoundOffer, SoundMatch, SoundReceipt, frozen-of, AccountTable, MatchTable, ReceiptTable, Core, SoundTables}
+use Rattle.book.specs.laws.Sound.{SoundLots, SoundAccount, SoundOffer, SoundMatch, SoundReceipt, frozen-of, AccountTable, MatchTable, ReceiptTable, Core, SoundTables}
 
 -- ---- accounts
 
@@ -23,9 +23,9 @@ accounts-put {day} {n} {l} k a t r = record { size = simp length-set (t .size); 
 pub accounts-add : {day n : ℕ} {l : List Account} (a : Account) → n < 32 → AccountTable day n l → SoundAccount day a → AccountTable day (n + 1) (set l n a)
 accounts-add {day} {n} {l} a h t r = record { size = simp length-set (t .size); few = omega arith; rows = rows-add (SoundAccount day) l n a blank-account (omega (arith, t .size)) (t .rows) r }
 
--- on another side, with other units and another opening day
-pub account-placed : {day : ℕ} {a : Account} {s : Side} {u d : ℕ} → SoundAccount day a → u ≤ 1_000 → (s ≡ Side.Flat → u ≡ 0) → (s ≡ Side.Long → 0 < u) → (s ≡ Side.Short → 0 < u) → d ≤ day
-    → SoundAccount day (with-position a s u d)
+-- on another side, with other units and other lots
+pub account-placed : {day : ℕ} {a : Account} {s : Side} {u : ℕ} {l : Lots} → SoundAccount day a → u ≤ 1_000 → (s ≡ Side.Flat → u ≡ 0) → (s ≡ Side.Long → 0 < u) → (s ≡ Side.Short → 0 < u)
+    → SoundLots day u l → SoundAccount day (with-position a s u l)
 account-placed r n f l s d = search
 
 pub no-offer : (a : Account) → a .offer ≡ Offer.Missing → SoundOffer a
@@ -48,7 +48,7 @@ pub matches-put : {n day tonnes : ℕ} {board : Bool} {count : ℕ} {l : List Ma
     → MatchTable n day tonnes board count (set l j c)
 matches-put {n} {day} {tonnes} {board} {count} {l} j c t r = record { size = simp length-set (t .size); few = t .few; rows = rows-set (SoundMatch n day tonnes board) l count j c blank-match (t .rows) r }
 
-pub matches-add : {n day tonnes : ℕ} {board : Bool} {count : ℕ} {l : List Match} (c : Match) → count < 128 → MatchTable n day tonnes board count l → SoundMatch n day tonnes board c
+pub matches-add : {n day tonnes : ℕ} {board : Bool} {count : ℕ} {l : List Match} (c : Match) → count < 256 → MatchTable n day tonnes board count l → SoundMatch n day tonnes board c
     → MatchTable n day tonnes board (count + 1) (set l count c)
 matches-add {n} {day} {tonnes} {board} {count} {l} c h t r = record { size = simp length-set (t .size); few = omega arith; rows = rows-add (SoundMatch n day tonnes board) l count c blank-match (omega (arith, t .size)) (t .rows) r }
 

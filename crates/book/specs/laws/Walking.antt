@@ -33,21 +33,25 @@ all-of P f (x ∷ l) h = (h .0, all-of P f l (h .1))
 
 -- ---- what is left to an account in a list
 
-unfoldable pub left-of : ℕ → List Listed → ℕ
-left-of k [] = 0
-left-of k (x ∷ xs) = only (x .account) (x .left) k + left-of k xs
+-- f of each member of account k, added up
+unfoldable pub sum-of : (Listed → ℕ) → ℕ → List Listed → ℕ
+sum-of f k [] = 0
+sum-of f k (x ∷ xs) = only (x .account) (f x) k + sum-of f k xs
+
+abbrev pub left-of : ℕ → List Listed → ℕ
+left-of k xs = sum-of (λ x. x .left) k xs
 
 module _ (u : ℕ) (x : Listed) (xs : List Listed) where
   -- the front has u units less, and nobody else
   pub use-up-left : (k : ℕ) → u ≤ x .left → left-of k (use-up u x xs) + only (x .account) u k ≡ left-of k (x ∷ xs)
-  unfolding left-of
+  unfolding sum-of
   use-up-left k h =
       let s = only-split (x .account) k u (x .left) h in
       by-pick (λ (l : List Listed). left-of k l + only (x .account) u k ≡ only (x .account) (x .left) k + left-of k xs) (eqb (x .left - u) 0)
       (λ e. let z : x .left - u ≡ 0 = eqb-true _ _ e in omega (arith, only-most (x .account) (x .left - u) k))
       (λ e. omega arith)
 
-  pub use-up-all : (Q : Listed → Type 0) → (0 < x .left - u → Q (record { account = x .account; left = x .left - u })) → All Q xs → All Q (use-up u x xs)
+  pub use-up-all : (Q : Listed → Type 0) → (0 < x .left - u → Q (record { account = x .account; left = x .left - u; day = x .day })) → All Q xs → All Q (use-up u x xs)
   use-up-all Q h g = by-pick (All Q) (eqb (x .left - u) 0) (λ e. g) (λ e. let z = eqb-false (x .left - u) 0 e in (h (omega arith), g))
 
   -- whoever is used up is dropped
@@ -55,7 +59,7 @@ module _ (u : ℕ) (x : Listed) (xs : List Listed) where
   use-up-length = by-pick (λ (l : List Listed). length l ≤ length xs + min 1 (x .left - u)) (eqb (x .left - u) 0) (λ e. omega arith) (λ e. let z = eqb-false (x .left - u) 0 e in omega arith)
 
 pub front-left : (x : Listed) (xs : List Listed) → x .left ≤ left-of (x .account) (x ∷ xs)
-unfolding left-of
+unfolding sum-of
 front-left x xs = omega (arith, only-here (x .account) (x .left))
 
 -- ---- lists that a book answers for
@@ -72,7 +76,7 @@ pub record Listing (b : Book) (xs ys : List Listed) : Type 0 where
   pub long : (k : ℕ) → k < b .«account_count» → left-of k xs ≤ long-units (account-at b k)
   pub short : (k : ℕ) → k < b .«account_count» → left-of k ys ≤ short-units (account-at b k)
 
-front-pairable : {b : Book} (x y : Listed) (xs ys : List Listed) → b .«match_count» < 128 → Listing b (x ∷ xs) (y ∷ ys) → Pairable b (x .account) (y .account) (min (x .left) (y .left))
+front-pairable : {b : Book} (x y : Listed) (xs ys : List Listed) → b .«match_count» < 256 → Listing b (x ∷ xs) (y ∷ ys) → Pairable b (x .account) (y .account) (min (x .left) (y .left))
 front-pairable {b} x y xs ys m l =
     let p = l .buyers .0 in
     let q = l .sellers .0 in
@@ -96,7 +100,7 @@ module _ (c : Bool) (P : List Listed → List Listed → Book → Type 0) (Q : B
     (keep : (x y : Listed) (xs ys : List Listed) (b : Book) → Core b → Pairable b (x .account) (y .account) (min (x .left) (y .left)) → P (x ∷ xs) (y ∷ ys) b
     → P (use-up (min (x .left) (y .left)) x xs) (use-up (min (x .left) (y .left)) y ys) (pair b c 1 (x .account) (y .account) (min (x .left) (y .left))))
     (no-buyers : (ys : List Listed) (b : Book) → Core b → P [] ys b → Q b) (no-sellers : (xs : List Listed) (b : Book) → Core b → P xs [] b → Q b) where
-  pub walk-keeps : (n : ℕ) (xs ys : List Listed) (b : Book) → length xs + length ys ≤ n → b .«match_count» + (length xs + length ys - 1) ≤ 128 → Core b → Listing b xs ys → P xs ys b
+  pub walk-keeps : (n : ℕ) (xs ys : List Listed) (b : Book) → length xs + length ys ≤ n → b .«match_count» + (length xs + length ys - 1) ≤ 256 → Core b → Listing b xs ys → P xs ys b
       → Passed Q (b .«account_count») (b .«match_count») (b .«match_count» + (length xs + length ys - 1)) (pair-all c (walk n xs ys) b)
   unfolding walk pair-all
   walk-keeps zero [] ys b f m r l h = record { core = r; kept = no-buyers ys b r h; accounts = refl; low-count = omega arith; high-count = omega arith }

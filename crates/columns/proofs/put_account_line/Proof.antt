@@ -16,7 +16,12 @@ put-account-line-spec =
     (λ c κs. search needs)
     (λ c. search needs)
     (λ c κs. search needs)
-    (λ c κs. search needs)
+    (λ c κs.
+    let units = c .before .before .before in
+    let side = units .before .before .before .before .before in
+    let cash = side .before .before .before .before in
+    let number = cash .before .before .before .before .before in
+    omega (arith, number .before .before .before .pre .0, number .put-field .ensures .1, cash .put-cash .ensures .1, side .put-side .ensures .1, units .put-field2 .ensures .1))
     (λ c. search needs)
     (λ c.
     let side = c .before .before .before .before .before .before .before .before .before .before .before in

@@ -6,4 +6,4 @@ use Rattle.delivery.proofs.output_buffer.Statement.{statement}
 use Rattle.delivery.proofs.output_buffer.Tie as tie
 
 pub output-buffer-spec : {M : Type 1} → statement M
-output-buffer-spec = tie.close (tie.spec (λ c. sym (length-replicate {0} {A = ℕ} 829_611 0)))
+output-buffer-spec = tie.close (tie.spec (λ c. sym (length-replicate {0} {A = ℕ} 848_427 0)))

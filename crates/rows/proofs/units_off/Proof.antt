@@ -17,10 +17,11 @@ pub units-off-spec : {M : Type 1} → statement M
 units-off-spec =
     tie.close
     (tie.spec
+    (λ c κs. search needs)
     (λ c. search needs)
     (λ c κs. search needs)
-    (λ c. rw (c .with-position .ensures, none-left _ _ (c .before .if1 .taken)))
+    (λ c. rw (c .with-position .ensures, c .before .before .before .lots-off .ensures, none-left _ _ (c .before .if1 .taken)))
     (λ c. search needs)
     (λ c. search needs)
     (λ c κs. search needs)
-    (λ c. rw (c .with-position2 .ensures, some-left _ _ (c .before .before .if1 .left))))
+    (λ c. rw (c .with-position2 .ensures, c .before .before .before .before .lots-off .ensures, some-left _ _ (c .before .before .if1 .left))))

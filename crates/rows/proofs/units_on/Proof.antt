@@ -1,5 +1,4 @@
--- `units_on` meets its contract, by the test of its units. Assumes nothing.
-use borrow.Author.Tests.{eq-eqb, ne-eqb}
+-- `units_on` meets its contract: the units and the lots. Assumes nothing.
 use borrow.Author.Needs.{needs}
 use Rattle.rows.proofs.units_on.Statement.{statement}
 use Rattle.rows.proofs.units_on.Tie as tie
@@ -10,8 +9,8 @@ units-on-spec =
     (tie.spec
     (λ c. search needs)
     (λ c. search needs)
+    (λ c κs. search needs)
+    (λ c. search needs)
     (λ c. search needs)
     (λ c κs. search needs)
-    (λ c. rw (c .with-position .ensures, eq-eqb _ _ (c .before .if1 .taken)))
-    (λ c κs. search needs)
-    (λ c. rw (c .with-position2 .ensures, ne-eqb _ _ (c .before .if1 .left))))
+    (λ c. rw (c .with-position .ensures, c .before .before .lots-on .ensures)))
