@@ -1,10 +1,13 @@
 // The opening of a book, and calls 1 to 4 and 11: Join, Deposit, Withdraw, Trade, Day.
 ghost use mathlib.Core.Path.{_≡_};
 ghost use Prim.Native.Nat.{_≤_, _<_};
-ghost use Rattle.book.specs.Answers.{refuse};
+ghost use Rattle.book.specs.Answers.{refuse, refusal-of};
 ghost use Rattle.book.specs.Opening.{no-book, opening, next-day};
 ghost use Rattle.book.specs.Accounts.{join, deposit, withdraw, trade};
+ghost use Rattle.book.specs.Tables.{account-at};
 ghost use Rattle.book.specs.Lists.{Reached};
+ghost use Rattle.rows.specs.Places.{place};
+use book::Account;
 use book::Answer;
 use book::Book;
 use book::Outcome;
@@ -194,6 +197,61 @@ pub fn withdraw(mut book: Book, account: u64, amount: u64) -> Outcome
         answer: Answer::Accepted(0),
         book,
     }
+}
+
+// The number with which Trade is refused, by the rows at the places of buyer and seller; 0 where it is accepted.
+pub fn trade_refusal(
+    book: Book,
+    bought: Account,
+    sold: Account,
+    buyer: u64,
+    seller: u64,
+    units: u64,
+) -> u64
+    requires { ⌜ Reached book ⌝ }
+    requires { ⌜ bought ≡ account-at book (place 32 buyer) ⌝ }
+    requires { ⌜ sold ≡ account-at book (place 32 seller) ⌝ }
+    ensures { λ r. ⌜ r ≡ refusal-of (trade book buyer seller units .answer) ⌝ }
+{
+    let count = book.account_count as u64;
+    if !book.open {
+        return 5;
+    }
+    if count <= buyer {
+        return 6;
+    }
+    if count <= seller {
+        return 6;
+    }
+    if buyer == seller {
+        return 7;
+    }
+    if units < 1 {
+        return 8;
+    }
+    if 1_000 < units {
+        return 8;
+    }
+    if rows::is_short(bought) {
+        return 9;
+    }
+    if rows::is_long(sold) {
+        return 9;
+    }
+    if rows::would_pass(bought, units) {
+        return 10;
+    }
+    if rows::would_pass(sold, units) {
+        return 10;
+    }
+    let day = book.day;
+    if rows::needs_fifth(bought, day) {
+        return 28;
+    }
+    if rows::needs_fifth(sold, day) {
+        return 28;
+    }
+    0
 }
 
 // "4 Trade buyer, seller, units: adds units long to one and short to the other."

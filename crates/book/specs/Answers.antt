@@ -27,3 +27,8 @@ is-accepted (Answer.Refused n) = false
 abbrev pub answer-values : Answer → List ℕ
 answer-values (Answer.Accepted n) = n ∷ []
 answer-values (Answer.Refused n) = n ∷ []
+
+-- the number of a refusal; 0 for an accepted answer, as no refusal has that number
+abbrev pub refusal-of : Answer → ℕ
+refusal-of (Answer.Accepted n) = 0
+refusal-of (Answer.Refused n) = n

@@ -4,7 +4,10 @@ ghost use mathlib.Core.Bool.{_&&_};
 ghost use Prim.Native.Nat.{_≤_, _<_};
 ghost use Rattle.book.specs.Rows.{heat-missing};
 ghost use Rattle.book.specs.Offers.{declare, offer, retract};
+ghost use Rattle.book.specs.Answers.{refusal-of};
+ghost use Rattle.book.specs.Tables.{account-at};
 ghost use Rattle.book.specs.Lists.{Reached};
+ghost use Rattle.rows.specs.Places.{place};
 use book::Account;
 use book::Answer;
 use book::Book;
@@ -59,6 +62,40 @@ fn lacks_heat(board: bool, a: Account) -> bool
         return rows::heat_missing(heat);
     }
     false
+}
+
+// The number with which Offer is refused, by the row at the seller's place; 0 where it is accepted.
+pub fn offer_refusal(book: Book, a: Account, seller: u64, units: u64) -> u64
+    requires { ⌜ Reached book ⌝ }
+    requires { ⌜ a ≡ account-at book (place 32 seller) ⌝ }
+    ensures { λ r. ⌜ r ≡ refusal-of (offer book seller units .answer) ⌝ }
+{
+    if !book.open {
+        return 5;
+    }
+    if book.account_count as u64 <= seller {
+        return 6;
+    }
+    if units < 1 {
+        return 8;
+    }
+    if 1_000 < units {
+        return 8;
+    }
+    if !rows::offer_missing(a) {
+        return 12;
+    }
+    if rows::short_units(a) < units {
+        return 14;
+    }
+    let lodged = book.receipts;
+    if receipts::lacks_receipts(book.board, lodged, book.receipt_count, seller, units) {
+        return 15;
+    }
+    if lacks_heat(book.board, a) {
+        return 19;
+    }
+    0
 }
 
 // "8 Offer seller, units."

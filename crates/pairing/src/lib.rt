@@ -4,7 +4,11 @@ ghost use Prim.Native.Nat.{_≤_, _<_, _+_};
 ghost use Rattle.book.specs.Counting.{iter};
 ghost use Rattle.book.specs.Pairing.{freeze-turn, pair};
 ghost use Rattle.book.specs.Offers.{take-offer};
+ghost use Rattle.book.specs.Answers.{refusal-of};
+ghost use Rattle.book.specs.Tables.{account-at};
 ghost use Rattle.book.specs.Lists.{Reached};
+ghost use Rattle.rows.specs.Places.{place};
+use book::Account;
 use book::Answer;
 use book::Book;
 use book::Freezing;
@@ -81,6 +85,43 @@ pub fn pair(
         units,
     );
     book
+}
+
+// The number with which Take is refused, by the rows at the places of buyer and seller; 0 where it is accepted.
+pub fn take_refusal(book: Book, bought: Account, sold: Account, buyer: u64, seller: u64) -> u64
+    requires { ⌜ Reached book ⌝ }
+    requires { ⌜ bought ≡ account-at book (place 32 buyer) ⌝ }
+    requires { ⌜ sold ≡ account-at book (place 32 seller) ⌝ }
+    ensures { λ r. ⌜ r ≡ refusal-of (take-offer book buyer seller .answer) ⌝ }
+{
+    let count = book.account_count as u64;
+    if !book.open {
+        return 5;
+    }
+    if count <= buyer {
+        return 6;
+    }
+    if count <= seller {
+        return 6;
+    }
+    if buyer == seller {
+        return 7;
+    }
+    if rows::offer_missing(sold) {
+        return 13;
+    }
+    let units = rows::offer_units(sold);
+    if rows::long_units(bought) < units {
+        return 14;
+    }
+    let lodged = book.receipts;
+    if receipts::lacks_receipts(book.board, lodged, book.receipt_count, seller, units) {
+        return 15;
+    }
+    if Book::TAKE_MATCHES <= book.match_count {
+        return 20;
+    }
+    0
 }
 
 // "10 Take buyer, seller: the whole offer becomes a match due in 2 days; the offer ends; carries the match number."

@@ -1,3 +1,4 @@
 pub mod Needs
 pub mod Chain
 pub mod Loops
+pub mod Places

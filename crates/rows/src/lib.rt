@@ -12,6 +12,7 @@ ghost use Rattle.book.specs.Counting.{one-if};
 ghost use Rattle.book.specs.Rows.{needs-fifth, lots-on, lot-off, lots-off, with-position, with-heat, with-offer, credited, debited, units-on, units-off, is-long, is-short, long-units, short-units, heat-missing, heat-value, offer-missing, offer-units, with-state, is-free, is-frozen, is-struck, is-frozen-for, is-free-of, frozen-for, released, passed, with-held, is-paired, is-prepaid, is-held};
 ghost use Rattle.book.specs.Accounts.{new-account};
 ghost use Rattle.book.specs.Receipts.{new-receipt};
+ghost use Rattle.rows.specs.Places.{place};
 use book::Account;
 use book::Heat;
 use book::Lot;
@@ -582,4 +583,26 @@ pub fn is_held(m: Match) -> bool
         Stage::Closed => false,
         Stage::Ended => false,
     }
+}
+
+// ---- the place of a row
+
+// The place of an account's row: its number where the table has such a row, else 0, so that it can always be read.
+pub fn account_place(number: u64) -> usize
+    ensures { λ r. ⌜ (r ≡ place 32 number) × (r < 32) ⌝ }
+{
+    if number < 32 {
+        return number as usize;
+    }
+    0
+}
+
+// The place of a match's row.
+pub fn match_place(number: u64) -> usize
+    ensures { λ r. ⌜ (r ≡ place 256 number) × (r < 256) ⌝ }
+{
+    if number < 256 {
+        return number as usize;
+    }
+    0
 }

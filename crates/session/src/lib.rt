@@ -46,10 +46,7 @@ fn run(book: Book, s: &[u8], from: usize, out: &mut [u8], at: usize, wanted: boo
     requires { ⌜ (wanted ≡ true → 12 * length (now s) + 36 ≤ length (now out)) ⌝ }
     ensures { λ r. ⌜ Followed (lines (drop from (now (s .entry)))) book wanted (now (out .entry)) (now (out .exit)) at (12 * length (now (s .entry)) + 24) r ⌝ }
 {
-    let mut o = Outcome {
-        answer: Answer::Accepted(0),
-        book,
-    };
+    let mut book = book;
     let mut i = from;
     let mut w = at;
     while i < s.len() {
@@ -60,25 +57,90 @@ fn run(book: Book, s: &[u8], from: usize, out: &mut [u8], at: usize, wanted: boo
             w = put_reply(out, w, Answer::Refused(26), wanted);
             continue;
         };
-        // Each call's outcome takes the place of the last one.
+        // A refusal that shows from the rows that the call names leaves the book where it is.
+        let named = refusals::rows_named(call);
+        let j = rows::match_place(named.pair);
+        let k = rows::account_place(named.buyer);
+        let l = rows::account_place(named.seller);
+        let pair = book.matches[j];
+        let bought = book.accounts[k];
+        let sold = book.accounts[l];
+        let refused = refusals::early(book, call, pair, bought, sold);
+        if refused != 0 {
+            w = put_reply(out, w, Answer::Refused(refused), wanted);
+            continue;
+        }
+        let mut answer = Answer::Accepted(0);
         match call {
-            Call::Join { residence, fitness } => o = accounts::join(o.book, residence, fitness),
-            Call::Deposit { account, amount } => o = accounts::deposit(o.book, account, amount),
-            Call::Withdraw { account, amount } => o = accounts::withdraw(o.book, account, amount),
+            Call::Join { residence, fitness } => {
+                let o = accounts::join(book, residence, fitness);
+                book = o.book;
+                answer = o.answer;
+            }
+            Call::Deposit { account, amount } => {
+                let o = accounts::deposit(book, account, amount);
+                book = o.book;
+                answer = o.answer;
+            }
+            Call::Withdraw { account, amount } => {
+                let o = accounts::withdraw(book, account, amount);
+                book = o.book;
+                answer = o.answer;
+            }
             Call::Trade {
                 buyer,
                 seller,
                 units,
-            } => o = accounts::trade(o.book, buyer, seller, units),
-            Call::Lodge { owner, class } => o = receipts::lodge(o.book, owner, class),
-            Call::Strike { owner, receipt } => o = receipts::strike(o.book, owner, receipt),
-            Call::Declare { account, heat } => o = offers::declare(o.book, account, heat),
-            Call::Offer { seller, units } => o = offers::offer(o.book, seller, units),
-            Call::Retract { seller } => o = offers::retract(o.book, seller),
-            Call::Take { buyer, seller } => o = pairing::take_offer(o.book, buyer, seller),
-            Call::Day { price } => o = accounts::next_day(o.book, price),
-            Call::Close => o = closing::close(o.book),
-            Call::Settle { number } => o = settlement::settle(o.book, number),
+            } => {
+                let o = accounts::trade(book, buyer, seller, units);
+                book = o.book;
+                answer = o.answer;
+            }
+            Call::Lodge { owner, class } => {
+                let o = receipts::lodge(book, owner, class);
+                book = o.book;
+                answer = o.answer;
+            }
+            Call::Strike { owner, receipt } => {
+                let o = receipts::strike(book, owner, receipt);
+                book = o.book;
+                answer = o.answer;
+            }
+            Call::Declare { account, heat } => {
+                let o = offers::declare(book, account, heat);
+                book = o.book;
+                answer = o.answer;
+            }
+            Call::Offer { seller, units } => {
+                let o = offers::offer(book, seller, units);
+                book = o.book;
+                answer = o.answer;
+            }
+            Call::Retract { seller } => {
+                let o = offers::retract(book, seller);
+                book = o.book;
+                answer = o.answer;
+            }
+            Call::Take { buyer, seller } => {
+                let o = pairing::take_offer(book, buyer, seller);
+                book = o.book;
+                answer = o.answer;
+            }
+            Call::Day { price } => {
+                let o = accounts::next_day(book, price);
+                book = o.book;
+                answer = o.answer;
+            }
+            Call::Close => {
+                let o = closing::close(book);
+                book = o.book;
+                answer = o.answer;
+            }
+            Call::Settle { number } => {
+                let o = settlement::settle(book, number);
+                book = o.book;
+                answer = o.answer;
+            }
             Call::Measure {
                 number,
                 w,
@@ -87,14 +149,24 @@ fn run(book: Book, s: &[u8], from: usize, out: &mut [u8], at: usize, wanted: boo
                 s,
                 f,
                 a,
-            } => o = settlement::measure(o.book, number, w, q, m, s, f, a),
-            Call::Invoice { number } => o = settlement::invoice(o.book, number),
-            Call::Terminate { number, party } => o = settlement::terminate(o.book, number, party),
+            } => {
+                let o = settlement::measure(book, number, w, q, m, s, f, a);
+                book = o.book;
+                answer = o.answer;
+            }
+            Call::Invoice { number } => {
+                let o = settlement::invoice(book, number);
+                book = o.book;
+                answer = o.answer;
+            }
+            Call::Terminate { number, party } => {
+                let o = settlement::terminate(book, number, party);
+                book = o.book;
+                answer = o.answer;
+            }
         }
-        let answer = o.answer;
         w = put_reply(out, w, answer, wanted);
     }
-    let book = o.book;
     Ran { book, at: w }
 }
 

@@ -9,9 +9,11 @@ ghost use Rattle.coal.specs.Ranges.{most-weight};
 ghost use Rattle.book.specs.declared.Fault.{Fault};
 ghost use Rattle.book.specs.Counting.{iter, tally};
 ghost use Rattle.book.specs.Rows.{heat-missing, heat-value};
+ghost use Rattle.book.specs.Answers.{refusal-of};
 ghost use Rattle.book.specs.Tables.{match-at, pay, charge, frozen-at};
 ghost use Rattle.book.specs.Settlement.{punish, release-turn, pass-turn, set-stage, buyer-fault, seller-fault, settle-receipts, settle-board, settle-ended, settled, settle, measured, measure, invoice, terminated, terminate};
 ghost use Rattle.book.specs.Lists.{Reached};
+ghost use Rattle.rows.specs.Places.{place};
 ghost use Rattle.settlement.specs.Money.{most-paid, percent-of, Room, fined, Deal, Due};
 use book::Answer;
 use book::Book;
@@ -287,6 +289,24 @@ fn settle_due(book: Book, number: u64) -> Book
     settled(book, number, m, v, x, y)
 }
 
+// The number with which Settle is refused, by the row at the match's place; 0 where it is accepted.
+pub fn settle_refusal(book: Book, m: Match, number: u64) -> u64
+    requires { ⌜ Reached book ⌝ }
+    requires { ⌜ m ≡ match-at book (place 256 number) ⌝ }
+    ensures { λ r. ⌜ r ≡ refusal-of (settle book number .answer) ⌝ }
+{
+    if book.match_count as u64 <= number {
+        return 21;
+    }
+    if !rows::is_paired(m) {
+        return 22;
+    }
+    if book.day < m.due as u64 {
+        return 23;
+    }
+    0
+}
+
 // "13 Settle match." "Settle (paired)."
 pub fn settle(book: Book, number: u64) -> Outcome
     requires { ⌜ Reached book ⌝ }
@@ -366,6 +386,37 @@ fn out_of_range(w: u64, q: u64, m: u64, s: u64, f: u64, a: u64) -> bool
     (40_000_000_000 < w) | (10_000 < q) | (10_000 < m) | (10_000 < s) | (10_000 < f) | (10_000 < a)
 }
 
+// The number with which Measure is refused, by the row at the match's place; 0 where it is accepted.
+pub fn measure_refusal(
+    book: Book,
+    c: Match,
+    number: u64,
+    w: u64,
+    q: u64,
+    m: u64,
+    s: u64,
+    f: u64,
+    a: u64,
+) -> u64
+    requires { ⌜ Reached book ⌝ }
+    requires { ⌜ c ≡ match-at book (place 256 number) ⌝ }
+    ensures { λ r. ⌜ r ≡ refusal-of (measure book number w q m s f a .answer) ⌝ }
+{
+    if !book.board {
+        return 4;
+    }
+    if book.match_count as u64 <= number {
+        return 21;
+    }
+    if !rows::is_prepaid(c) {
+        return 22;
+    }
+    if out_of_range(w, q, m, s, f, a) {
+        return 24;
+    }
+    0
+}
+
 // "14 Measure match, W, Q, M, S, F, A." "Measure (prepaid)" It carries the kilograms over.
 pub fn measure(book: Book, number: u64, w: u64, q: u64, m: u64, s: u64, f: u64, a: u64) -> Outcome
     requires { ⌜ Reached book ⌝ }
@@ -410,6 +461,21 @@ pub fn measure(book: Book, number: u64, w: u64, q: u64, m: u64, s: u64, f: u64, 
 
 // ---- Invoice
 
+// The number with which Invoice is refused, by the row at the match's place; 0 where it is accepted.
+pub fn invoice_refusal(book: Book, m: Match, number: u64) -> u64
+    requires { ⌜ Reached book ⌝ }
+    requires { ⌜ m ≡ match-at book (place 256 number) ⌝ }
+    ensures { λ r. ⌜ r ≡ refusal-of (invoice book number .answer) ⌝ }
+{
+    if book.match_count as u64 <= number {
+        return 21;
+    }
+    if !rows::is_held(m) {
+        return 22;
+    }
+    0
+}
+
 // "15 Invoice match." "Invoice (held): the money held goes to the seller; closed."
 pub fn invoice(book: Book, number: u64) -> Outcome
     requires { ⌜ Reached book ⌝ }
@@ -450,6 +516,27 @@ fn terminated(book: Book, number: u64, m: Match, v: u64, party: u64) -> Book
     let y = fault(true, party != 0, book.rate);
     let next = punish(repaid, m, v, x, y);
     set_stage(next, number, 0, Stage::Ended)
+}
+
+// The number with which Terminate is refused, by the row at the match's place; 0 where it is accepted.
+pub fn terminate_refusal(book: Book, m: Match, number: u64, party: u64) -> u64
+    requires { ⌜ Reached book ⌝ }
+    requires { ⌜ m ≡ match-at book (place 256 number) ⌝ }
+    ensures { λ r. ⌜ r ≡ refusal-of (terminate book number party .answer) ⌝ }
+{
+    if !book.board {
+        return 4;
+    }
+    if 2 < party {
+        return 8;
+    }
+    if book.match_count as u64 <= number {
+        return 21;
+    }
+    if !rows::is_prepaid(m) {
+        return 22;
+    }
+    0
 }
 
 // "16 Terminate match, party (0 buyer, 1 seller, 2 both)." "Terminate (prepaid)"

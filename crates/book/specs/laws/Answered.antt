@@ -10,7 +10,7 @@ use lib.Signed.{ltZ}
 use Rattle.book.specs.Types.{Heat, Offer, ReceiptState, Stage, Book, Outcome, Call}
 use Rattle.book.specs.Rows.{needs-fifth, with-heat, with-offer, with-state, long-units, short-units, is-long, is-short, offer-missing, offer-units, heat-missing, is-struck, is-frozen, is-paired, is-prepaid, is-held, any-class}
 use Rattle.book.specs.Tables.{account-at, receipt-at, match-at, add-account, add-receipt, put-account, put-receipt, with-deposited, with-day, with-open, pay, charge, free-receipts}
-use Rattle.book.specs.Answers.{refuse, refuse-if, accept}
+use Rattle.book.specs.Answers.{refuse, refuse-if, accept, refusal-of}
 use Rattle.book.specs.Opening.{fresh, no-book, opening, next-day}
 use Rattle.book.specs.Accounts.{join, deposit, withdraw, new-account, trade, traded}
 use Rattle.book.specs.Receipts.{lodge, strike, new-receipt}
@@ -228,6 +228,29 @@ answered b (Call.Settle j) = search tests depth 16
 answered b (Call.Measure j w q m s f a) = search tests depth 16
 answered b (Call.Invoice j) = search tests depth 16
 answered b (Call.Terminate j party) = search tests depth 16
+
+-- "A refusal is one number; the book is unchanged."
+refused-alone : {b : Book} {c : Call} {o : Outcome} → Answered b c o → (refusal-of (o .answer) ≡ 0 → ⊥) → refuse (refusal-of (o .answer)) b ≡ o
+refused-alone (refused n) h = refl
+refused-alone (joins g) h = absurd (h refl)
+refused-alone (deposits g) h = absurd (h refl)
+refused-alone (withdraws g) h = absurd (h refl)
+refused-alone (trades g) h = absurd (h refl)
+refused-alone (lodges g) h = absurd (h refl)
+refused-alone (strikes g) h = absurd (h refl)
+refused-alone (declares g) h = absurd (h refl)
+refused-alone (offers g) h = absurd (h refl)
+refused-alone (retracts g) h = absurd (h refl)
+refused-alone (takes g) h = absurd (h refl)
+refused-alone (days g) h = absurd (h refl)
+refused-alone (closes g) h = absurd (h refl)
+refused-alone (settles g) h = absurd (h refl)
+refused-alone (measures g) h = absurd (h refl)
+refused-alone (invoices g) h = absurd (h refl)
+refused-alone (terminates g) h = absurd (h refl)
+
+pub refused-is : (b : Book) (c : Call) → (refusal-of (step b c .answer) ≡ 0 → ⊥) → refuse (refusal-of (step b c .answer)) b ≡ step b c
+refused-is b c = refused-alone (answered b c)
 
 -- ---- the opening
 

@@ -81,7 +81,9 @@ off-whole x y z w u = rw (two-off x y u, off-off u x y, two-off (x + y) z u, off
 
 off-lots : {day n : ℕ} (l : Lots) (u : ℕ) → SoundLots day n l → SoundLots day (n - u) (lots-off l u)
 off-lots l u r = record {
-  whole = rw (← r .whole) (off-whole (l .oldest .units) (l .second .units) (l .third .units) (l .newest .units) u);
+  second-taken = next-off _ _ _ (r .second-taken);
+  third-taken = next-off _ _ _ (r .third-taken);
+  newest-taken = next-off _ _ _ (r .newest-taken);
   second-day = r .second-day;
   third-day = r .third-day;
   newest-day = r .newest-day;
@@ -89,9 +91,7 @@ off-lots l u r = record {
   second-later = λ h. r .second-later (some-off _ _ h);
   third-later = λ h. r .third-later (some-off _ _ h);
   newest-later = λ h. r .newest-later (some-off _ _ h);
-  second-taken = next-off _ _ _ (r .second-taken);
-  third-taken = next-off _ _ _ (r .third-taken);
-  newest-taken = next-off _ _ _ (r .newest-taken);
+  whole = rw (← r .whole) (off-whole (l .oldest .units) (l .second .units) (l .third .units) (l .newest .units) u);
 }
 
 off-sound : {day : ℕ} (a : Account) (u : ℕ) → SoundAccount day a → SoundAccount day (units-off a u)
