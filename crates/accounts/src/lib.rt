@@ -259,85 +259,19 @@ pub fn trade(mut book: Book, buyer: u64, seller: u64, units: u64) -> Outcome
     requires { ⌜ Reached book ⌝ }
     ensures { λ r. ⌜ r ≡ trade book buyer seller units ⌝ }
 {
-    let count = book.account_count as u64;
-    if !book.open {
-        return Outcome {
-            answer: Answer::Refused(5),
-            book,
-        };
-    }
-    if count <= buyer {
-        return Outcome {
-            answer: Answer::Refused(6),
-            book,
-        };
-    }
-    if count <= seller {
-        return Outcome {
-            answer: Answer::Refused(6),
-            book,
-        };
-    }
-    if buyer == seller {
-        return Outcome {
-            answer: Answer::Refused(7),
-            book,
-        };
-    }
-    if units < 1 {
-        return Outcome {
-            answer: Answer::Refused(8),
-            book,
-        };
-    }
-    if 1_000 < units {
-        return Outcome {
-            answer: Answer::Refused(8),
-            book,
-        };
-    }
-    let i = buyer as usize;
-    let j = seller as usize;
+    let i = rows::account_place(buyer);
+    let j = rows::account_place(seller);
     let mut accounts = book.accounts;
     let bought = accounts[i];
     let sold = accounts[j];
-    if rows::is_short(bought) {
+    let refused = trade_refusal(book, bought, sold, buyer, seller, units);
+    if refused != 0 {
         return Outcome {
-            answer: Answer::Refused(9),
-            book,
-        };
-    }
-    if rows::is_long(sold) {
-        return Outcome {
-            answer: Answer::Refused(9),
-            book,
-        };
-    }
-    if rows::would_pass(bought, units) {
-        return Outcome {
-            answer: Answer::Refused(10),
-            book,
-        };
-    }
-    if rows::would_pass(sold, units) {
-        return Outcome {
-            answer: Answer::Refused(10),
+            answer: Answer::Refused(refused),
             book,
         };
     }
     let day = book.day;
-    if rows::needs_fifth(bought, day) {
-        return Outcome {
-            answer: Answer::Refused(28),
-            book,
-        };
-    }
-    if rows::needs_fifth(sold, day) {
-        return Outcome {
-            answer: Answer::Refused(28),
-            book,
-        };
-    }
     accounts[i] = rows::units_on(bought, Side::Long, units, day);
     accounts[j] = rows::units_on(sold, Side::Short, units, day);
     book.accounts = accounts;

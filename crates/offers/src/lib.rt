@@ -103,55 +103,13 @@ pub fn offer(mut book: Book, seller: u64, units: u64) -> Outcome
     requires { ⌜ Reached book ⌝ }
     ensures { λ r. ⌜ r ≡ offer book seller units ⌝ }
 {
-    if !book.open {
-        return Outcome {
-            answer: Answer::Refused(5),
-            book,
-        };
-    }
-    if book.account_count as u64 <= seller {
-        return Outcome {
-            answer: Answer::Refused(6),
-            book,
-        };
-    }
-    if units < 1 {
-        return Outcome {
-            answer: Answer::Refused(8),
-            book,
-        };
-    }
-    if 1_000 < units {
-        return Outcome {
-            answer: Answer::Refused(8),
-            book,
-        };
-    }
-    let k = seller as usize;
+    let k = rows::account_place(seller);
     let mut accounts = book.accounts;
     let a = accounts[k];
-    if !rows::offer_missing(a) {
+    let refused = offer_refusal(book, a, seller, units);
+    if refused != 0 {
         return Outcome {
-            answer: Answer::Refused(12),
-            book,
-        };
-    }
-    if rows::short_units(a) < units {
-        return Outcome {
-            answer: Answer::Refused(14),
-            book,
-        };
-    }
-    let lodged = book.receipts;
-    if receipts::lacks_receipts(book.board, lodged, book.receipt_count, seller, units) {
-        return Outcome {
-            answer: Answer::Refused(15),
-            book,
-        };
-    }
-    if lacks_heat(book.board, a) {
-        return Outcome {
-            answer: Answer::Refused(19),
+            answer: Answer::Refused(refused),
             book,
         };
     }

@@ -129,62 +129,20 @@ pub fn take_offer(book: Book, buyer: u64, seller: u64) -> Outcome
     requires { ⌜ Reached book ⌝ }
     ensures { λ r. ⌜ r ≡ take-offer book buyer seller ⌝ }
 {
-    let count = book.account_count as u64;
-    if !book.open {
-        return Outcome {
-            answer: Answer::Refused(5),
-            book,
-        };
-    }
-    if count <= buyer {
-        return Outcome {
-            answer: Answer::Refused(6),
-            book,
-        };
-    }
-    if count <= seller {
-        return Outcome {
-            answer: Answer::Refused(6),
-            book,
-        };
-    }
-    if buyer == seller {
-        return Outcome {
-            answer: Answer::Refused(7),
-            book,
-        };
-    }
-    let j = seller as usize;
+    let i = rows::account_place(buyer);
+    let j = rows::account_place(seller);
     let accounts = book.accounts;
-    let a = accounts[j];
-    if rows::offer_missing(a) {
+    let bought = accounts[i];
+    let sold = accounts[j];
+    let refused = take_refusal(book, bought, sold, buyer, seller);
+    if refused != 0 {
         return Outcome {
-            answer: Answer::Refused(13),
+            answer: Answer::Refused(refused),
             book,
         };
     }
-    let units = rows::offer_units(a);
+    let units = rows::offer_units(sold);
     let number = book.match_count;
-    let i = buyer as usize;
-    if rows::long_units(accounts[i]) < units {
-        return Outcome {
-            answer: Answer::Refused(14),
-            book,
-        };
-    }
-    let lodged = book.receipts;
-    if receipts::lacks_receipts(book.board, lodged, book.receipt_count, seller, units) {
-        return Outcome {
-            answer: Answer::Refused(15),
-            book,
-        };
-    }
-    if Book::TAKE_MATCHES <= number {
-        return Outcome {
-            answer: Answer::Refused(20),
-            book,
-        };
-    }
     let mut next = pair(book, false, 2, buyer, seller, units);
     next.accounts[j] = rows::with_offer_ended(next.accounts[j]);
     Outcome {

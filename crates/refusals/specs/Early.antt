@@ -1,5 +1,5 @@
 -- Refusals of eight calls by the book's numbers and the rows that the call names. Assumes nothing.
-use mathlib.Core.Path.{_≡_, ap, _∙_}
+use mathlib.Core.Path.{_≡_}
 use Prim.Native.Nat.{ℕ}
 use Rattle.book.specs.declared.Call.{Call}
 use Rattle.book.specs.declared.Book.{Book}
@@ -52,25 +52,22 @@ early x (Call.Measure a b c d e f g) = refusal-of (step x (Call.Measure a b c d 
 early x (Call.Invoice a) = refusal-of (step x (Call.Invoice a) .answer)
 early x (Call.Terminate a b) = refusal-of (step x (Call.Terminate a b) .answer)
 
-by-number : (x : Book) (c : Call) {n : ℕ} → n ≡ refusal-of (step x c .answer) → (n ≡ 0 → ⊥) → refuse n x ≡ step x c
-by-number x c q h = ap (λ (k : ℕ). refuse k x) q ∙ refused-is x c (λ z. h (q ∙ z))
-
 -- "A refusal is one number; the book is unchanged.": a call that is refused so
 pub early-is : (x : Book) (c : Call) {n : ℕ} → n ≡ early x c → (n ≡ 0 → ⊥) → refuse n x ≡ step x c
 unfolding early
 early-is x (Call.Join a b) q h = absurd (h q)
 early-is x (Call.Deposit a b) q h = absurd (h q)
 early-is x (Call.Withdraw a b) q h = absurd (h q)
-early-is x (Call.Trade a b c) q h = by-number x (Call.Trade a b c) q h
+early-is x (Call.Trade a b c) q h = refused-is x (Call.Trade a b c) q h
 early-is x (Call.Lodge a b) q h = absurd (h q)
 early-is x (Call.Strike a b) q h = absurd (h q)
 early-is x (Call.Declare a b) q h = absurd (h q)
-early-is x (Call.Offer a b) q h = by-number x (Call.Offer a b) q h
+early-is x (Call.Offer a b) q h = refused-is x (Call.Offer a b) q h
 early-is x (Call.Retract a) q h = absurd (h q)
-early-is x (Call.Take a b) q h = by-number x (Call.Take a b) q h
+early-is x (Call.Take a b) q h = refused-is x (Call.Take a b) q h
 early-is x (Call.Day a) q h = absurd (h q)
-early-is x Call.Close q h = by-number x Call.Close q h
-early-is x (Call.Settle a) q h = by-number x (Call.Settle a) q h
-early-is x (Call.Measure a b c d e f g) q h = by-number x (Call.Measure a b c d e f g) q h
-early-is x (Call.Invoice a) q h = by-number x (Call.Invoice a) q h
-early-is x (Call.Terminate a b) q h = by-number x (Call.Terminate a b) q h
+early-is x Call.Close q h = refused-is x Call.Close q h
+early-is x (Call.Settle a) q h = refused-is x (Call.Settle a) q h
+early-is x (Call.Measure a b c d e f g) q h = refused-is x (Call.Measure a b c d e f g) q h
+early-is x (Call.Invoice a) q h = refused-is x (Call.Invoice a) q h
+early-is x (Call.Terminate a b) q h = refused-is x (Call.Terminate a b) q h

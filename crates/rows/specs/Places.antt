@@ -15,7 +15,7 @@ use Rattle.rows.specs.Needs.{account-there, match-there}
 unfoldable pub place : ℕ → ℕ → ℕ
 place n k = pick (ltb k n) k 0
 
-at-place : (n k : ℕ) → k < n → place n k ≡ k
+pub at-place : (n k : ℕ) → k < n → place n k ≡ k
 unfolding place
 at-place n k h = rw (lt-ltb _ _ h)
 

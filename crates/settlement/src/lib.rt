@@ -312,24 +312,13 @@ pub fn settle(book: Book, number: u64) -> Outcome
     requires { ⌜ Reached book ⌝ }
     ensures { λ r. ⌜ r ≡ settle book number ⌝ }
 {
-    if book.match_count as u64 <= number {
-        return Outcome {
-            answer: Answer::Refused(21),
-            book,
-        };
-    }
-    let j = number as usize;
+    let j = rows::match_place(number);
     let matches = book.matches;
     let m = matches[j];
-    if !rows::is_paired(m) {
+    let refused = settle_refusal(book, m, number);
+    if refused != 0 {
         return Outcome {
-            answer: Answer::Refused(22),
-            book,
-        };
-    }
-    if book.day < m.due as u64 {
-        return Outcome {
-            answer: Answer::Refused(23),
+            answer: Answer::Refused(refused),
             book,
         };
     }
@@ -422,30 +411,13 @@ pub fn measure(book: Book, number: u64, w: u64, q: u64, m: u64, s: u64, f: u64, 
     requires { ⌜ Reached book ⌝ }
     ensures { λ r. ⌜ r ≡ measure book number w q m s f a ⌝ }
 {
-    if !book.board {
-        return Outcome {
-            answer: Answer::Refused(4),
-            book,
-        };
-    }
-    if book.match_count as u64 <= number {
-        return Outcome {
-            answer: Answer::Refused(21),
-            book,
-        };
-    }
-    let j = number as usize;
+    let j = rows::match_place(number);
     let matches = book.matches;
     let c = matches[j];
-    if !rows::is_prepaid(c) {
+    let refused = measure_refusal(book, c, number, w, q, m, s, f, a);
+    if refused != 0 {
         return Outcome {
-            answer: Answer::Refused(22),
-            book,
-        };
-    }
-    if out_of_range(w, q, m, s, f, a) {
-        return Outcome {
-            answer: Answer::Refused(24),
+            answer: Answer::Refused(refused),
             book,
         };
     }
@@ -481,18 +453,13 @@ pub fn invoice(book: Book, number: u64) -> Outcome
     requires { ⌜ Reached book ⌝ }
     ensures { λ r. ⌜ r ≡ invoice book number ⌝ }
 {
-    if book.match_count as u64 <= number {
-        return Outcome {
-            answer: Answer::Refused(21),
-            book,
-        };
-    }
-    let j = number as usize;
+    let j = rows::match_place(number);
     let matches = book.matches;
     let m = matches[j];
-    if !rows::is_held(m) {
+    let refused = invoice_refusal(book, m, number);
+    if refused != 0 {
         return Outcome {
-            answer: Answer::Refused(22),
+            answer: Answer::Refused(refused),
             book,
         };
     }
@@ -544,30 +511,13 @@ pub fn terminate(book: Book, number: u64, party: u64) -> Outcome
     requires { ⌜ Reached book ⌝ }
     ensures { λ r. ⌜ r ≡ terminate book number party ⌝ }
 {
-    if !book.board {
-        return Outcome {
-            answer: Answer::Refused(4),
-            book,
-        };
-    }
-    if 2 < party {
-        return Outcome {
-            answer: Answer::Refused(8),
-            book,
-        };
-    }
-    if book.match_count as u64 <= number {
-        return Outcome {
-            answer: Answer::Refused(21),
-            book,
-        };
-    }
-    let j = number as usize;
+    let j = rows::match_place(number);
     let matches = book.matches;
     let m = matches[j];
-    if !rows::is_prepaid(m) {
+    let refused = terminate_refusal(book, m, number, party);
+    if refused != 0 {
         return Outcome {
-            answer: Answer::Refused(22),
+            answer: Answer::Refused(refused),
             book,
         };
     }

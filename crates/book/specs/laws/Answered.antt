@@ -1,10 +1,11 @@
 -- The refusals of all sixteen calls, gone through once: a call is refused and leaves the book, or it is accepted, none of its conditions applies,
 -- and it leaves the book that its rule says. A law of single calls goes by cases on this. Assumes nothing.
-use mathlib.Core.Path.{_≡_, refl}
+use mathlib.Core.Path.{_≡_, refl, sym, ap, _∙_}
 use mathlib.Core.Bool.{Bool, true, false, not, _&&_}
 use Prim.Native.Nat.{ℕ, _+_, _-_, _≤_, _<_}
 use native.Mathlib.Omega.{arith}
-use borrow.Author.Tests.{ltb-false, leb-false, eqb-true, eqb-false, not-false}
+use borrow.Author.Tests.{ltb-true, ltb-false, leb-false, eqb-true, eqb-false, not-false}
+use lib.Dec.{ltb}
 use lib.IntN.{pos}
 use lib.Signed.{ltZ}
 use Rattle.book.specs.Types.{Heat, Offer, ReceiptState, Stage, Book, Outcome, Call}
@@ -135,7 +136,7 @@ pub record MayTerminate (b : Book) (j party : ℕ) : Type 0 where
 -- ---- the answers
 
 pub data Answered (b : Book) : Call → Outcome → Type 0 where
-  refused : {c : Call} (n : ℕ) → Answered b c (refuse n b)
+  refused : {c : Call} (n : ℕ) → 0 < n → Answered b c (refuse n b)
   joins : {residence fitness : ℕ} → MayJoin b residence fitness → Answered b (Call.Join residence fitness) (accept (b .«account_count») (add-account b (new-account residence fitness)))
   deposits : {k x : ℕ} → MayDeposit b k x → Answered b (Call.Deposit k x) (accept 0 (pay (with-deposited b (b .deposited + x)) k x))
   withdraws : {k x : ℕ} → MayWithdraw b k x → Answered b (Call.Withdraw k x) (accept 0 (charge b k x))
@@ -156,9 +157,9 @@ pub data Answered (b : Book) : Call → Outcome → Type 0 where
 -- ---- tests
 
 -- a test of the machine: refused, or on with the test false
-test : {b : Book} {c : Call} (t : Bool) (n : ℕ) {o : Outcome} → (t ≡ false → Answered b c o) → Answered b c (refuse-if t n b o)
-test true n h = refused n
-test false n h = h refl
+test : {b : Book} {c : Call} (t : Bool) (n : ℕ) {o : Outcome} → ltb 0 n ≡ true → (t ≡ false → Answered b c o) → Answered b c (refuse-if t n b o)
+test true n p h = refused n (ltb-true 0 n p)
+test false n p h = h refl
 
 -- of two conditions at once, where the first holds
 both-not : (s t : Bool) → (s && t) ≡ false → s ≡ true → t ≡ false
@@ -208,7 +209,7 @@ declared-is h e m = impossible (cc (rw m at e))
 ruleset accepted = (joins, deposits, withdraws, trades, lodges, strikes, declares, offers, retracts, takes, days, closes, settles, measures, invoices, terminates)
 
 -- test after test, the accepted answer behind them, and what each test that does not hold says
-ruleset tests = (test, accepted, ltb-false, leb-false, eqb-true, eqb-false, not-false, both-not, flipped, paired-is, prepaid-is, held-is, free-is, missing-is, standing-is, declared-is)
+ruleset tests = (test, refl, accepted, ltb-false, leb-false, eqb-true, eqb-false, not-false, both-not, flipped, paired-is, prepaid-is, held-is, free-is, missing-is, standing-is, declared-is)
 
 pub answered : (b : Book) (c : Call) → Answered b c (step b c)
 unfolding step join deposit withdraw trade lodge strike declare offer retract take-offer next-day close settle measure invoice terminate
@@ -231,7 +232,7 @@ answered b (Call.Terminate j party) = search tests depth 16
 
 -- "A refusal is one number; the book is unchanged."
 refused-alone : {b : Book} {c : Call} {o : Outcome} → Answered b c o → (refusal-of (o .answer) ≡ 0 → ⊥) → refuse (refusal-of (o .answer)) b ≡ o
-refused-alone (refused n) h = refl
+refused-alone (refused n p) h = refl
 refused-alone (joins g) h = absurd (h refl)
 refused-alone (deposits g) h = absurd (h refl)
 refused-alone (withdraws g) h = absurd (h refl)
@@ -249,8 +250,66 @@ refused-alone (measures g) h = absurd (h refl)
 refused-alone (invoices g) h = absurd (h refl)
 refused-alone (terminates g) h = absurd (h refl)
 
-pub refused-is : (b : Book) (c : Call) → (refusal-of (step b c .answer) ≡ 0 → ⊥) → refuse (refusal-of (step b c .answer)) b ≡ step b c
-refused-is b c = refused-alone (answered b c)
+pub refused-is : (b : Book) (c : Call) {n : ℕ} → n ≡ refusal-of (step b c .answer) → (n ≡ 0 → ⊥) → refuse n b ≡ step b c
+refused-is b c q h = ap (λ (k : ℕ). refuse k b) q ∙ refused-alone (answered b c) (λ z. h (q ∙ z))
+
+-- and where there is none, the call is accepted: none of its conditions applies, and it leaves the book that its rule says
+module _ (b : Book) where
+  trade-goes : {buyer seller u : ℕ} {o : Outcome} → Answered b (Call.Trade buyer seller u) o → refusal-of (o .answer) ≡ 0 → MayTrade b buyer seller u × (accept 0 (traded b buyer seller u) ≡ o)
+  trade-goes (refused n p) h = absurd (omega arith)
+  trade-goes (trades g) h = (g, refl)
+
+  offer-goes : {seller u : ℕ} {o : Outcome} → Answered b (Call.Offer seller u) o → refusal-of (o .answer) ≡ 0 → MayOffer b seller u × (accept 0 (put-account b seller (with-offer (account-at b seller) (Offer.Units u))) ≡ o)
+  offer-goes (refused n p) h = absurd (omega arith)
+  offer-goes (offers g) h = (g, refl)
+
+  take-goes : {buyer seller : ℕ} {o : Outcome} → Answered b (Call.Take buyer seller) o → refusal-of (o .answer) ≡ 0 → MayTake b buyer seller × (accept (b .«match_count») (end-offer (pair b any-class 2 buyer seller (offer-units (account-at b seller .offer))) seller) ≡ o)
+  take-goes (refused n p) h = absurd (omega arith)
+  take-goes (takes g) h = (g, refl)
+
+  settle-goes : {j : ℕ} {o : Outcome} → Answered b (Call.Settle j) o → refusal-of (o .answer) ≡ 0 → MaySettle b j × (accept 0 (settled b j (match-at b j) (buyer-fault b j) (seller-fault b j)) ≡ o)
+  settle-goes (refused n p) h = absurd (omega arith)
+  settle-goes (settles g) h = (g, refl)
+
+  measure-goes : {j w q m s f a : ℕ} {o : Outcome} → Answered b (Call.Measure j w q m s f a) o → refusal-of (o .answer) ≡ 0 → MayMeasure b j w q m s f a × (accept (cargo b (match-at b j) w m .over) (measured b j (match-at b j) (amount-due b (match-at b j) w q m s f a)) ≡ o)
+  measure-goes (refused n p) h = absurd (omega arith)
+  measure-goes (measures g) h = (g, refl)
+
+  invoice-goes : {j : ℕ} {o : Outcome} → Answered b (Call.Invoice j) o → refusal-of (o .answer) ≡ 0 → MayInvoice b j × (accept 0 (set-stage (pay b (match-at b j .seller) (match-at b j .held)) j 0 Stage.Closed) ≡ o)
+  invoice-goes (refused n p) h = absurd (omega arith)
+  invoice-goes (invoices g) h = (g, refl)
+
+  terminate-goes : {j party : ℕ} {o : Outcome} → Answered b (Call.Terminate j party) o → refusal-of (o .answer) ≡ 0 → MayTerminate b j party × (accept 0 (terminated b j (match-at b j) party) ≡ o)
+  terminate-goes (refused n p) h = absurd (omega arith)
+  terminate-goes (terminates g) h = (g, refl)
+
+  pub trade-accepted : (buyer seller u : ℕ) {n : ℕ} → n ≡ refusal-of (trade b buyer seller u .answer) → n ≡ 0 → MayTrade b buyer seller u × (accept 0 (traded b buyer seller u) ≡ trade b buyer seller u)
+  unfolding step
+  trade-accepted buyer seller u e h = trade-goes (answered b (Call.Trade buyer seller u)) (sym e ∙ h)
+
+  pub offer-accepted : (seller u : ℕ) {n : ℕ} → n ≡ refusal-of (offer b seller u .answer) → n ≡ 0 → MayOffer b seller u × (accept 0 (put-account b seller (with-offer (account-at b seller) (Offer.Units u))) ≡ offer b seller u)
+  unfolding step
+  offer-accepted seller u e h = offer-goes (answered b (Call.Offer seller u)) (sym e ∙ h)
+
+  pub take-accepted : (buyer seller : ℕ) {n : ℕ} → n ≡ refusal-of (take-offer b buyer seller .answer) → n ≡ 0 → MayTake b buyer seller × (accept (b .«match_count») (end-offer (pair b any-class 2 buyer seller (offer-units (account-at b seller .offer))) seller) ≡ take-offer b buyer seller)
+  unfolding step
+  take-accepted buyer seller e h = take-goes (answered b (Call.Take buyer seller)) (sym e ∙ h)
+
+  pub settle-accepted : (j : ℕ) {n : ℕ} → n ≡ refusal-of (settle b j .answer) → n ≡ 0 → MaySettle b j × (accept 0 (settled b j (match-at b j) (buyer-fault b j) (seller-fault b j)) ≡ settle b j)
+  unfolding step
+  settle-accepted j e h = settle-goes (answered b (Call.Settle j)) (sym e ∙ h)
+
+  pub measure-accepted : (j w q m s f a : ℕ) {n : ℕ} → n ≡ refusal-of (measure b j w q m s f a .answer) → n ≡ 0 → MayMeasure b j w q m s f a × (accept (cargo b (match-at b j) w m .over) (measured b j (match-at b j) (amount-due b (match-at b j) w q m s f a)) ≡ measure b j w q m s f a)
+  unfolding step
+  measure-accepted j w q m s f a e h = measure-goes (answered b (Call.Measure j w q m s f a)) (sym e ∙ h)
+
+  pub invoice-accepted : (j : ℕ) {n : ℕ} → n ≡ refusal-of (invoice b j .answer) → n ≡ 0 → MayInvoice b j × (accept 0 (set-stage (pay b (match-at b j .seller) (match-at b j .held)) j 0 Stage.Closed) ≡ invoice b j)
+  unfolding step
+  invoice-accepted j e h = invoice-goes (answered b (Call.Invoice j)) (sym e ∙ h)
+
+  pub terminate-accepted : (j party : ℕ) {n : ℕ} → n ≡ refusal-of (terminate b j party .answer) → n ≡ 0 → MayTerminate b j party × (accept 0 (terminated b j (match-at b j) party) ≡ terminate b j party)
+  unfolding step
+  terminate-accepted j party e h = terminate-goes (answered b (Call.Terminate j party)) (sym e ∙ h)
 
 -- ---- the opening
 

@@ -295,7 +295,7 @@ lapse-holds b z f = record {
 }
 
 closed-holds : {b : Book} {o : Outcome} → Answered b Call.Close o → SoundTables b → is-accepted (o .answer) ≡ true → FirstPass b (o .book)
-closed-holds (Answered.refused n) t h = impossible (cc)
+closed-holds (Answered.refused n p) t h = impossible (cc)
 closed-holds {b} (Answered.closes g) t h = lapse-holds b (all-passes b) (go (b .board) refl)
   where
     go : (k : Bool) → b .board ≡ k → FirstPass b (all-passes b)

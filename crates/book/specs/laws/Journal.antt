@@ -112,7 +112,7 @@ pub data Change (b : Book) : List Entry → ℕ → ℕ → Bool → Book → Ty
 
 change : {b : Book} {c : Call} {o : Outcome} → Answered b c o → SoundTables b → Change b (entries b c) (amounts c .deposited) (amounts c .withdrawn) (is-accepted (o .answer)) (o .book)
 unfolding entries amounts
-change (Answered.refused n) r = refused
+change (Answered.refused n p) r = refused
 change (Answered.joins {residence = h} {fitness = f} g) r = joined (new-account h f) refl
 change {b} (Answered.deposits {k = k} {x = x} g) r = paid-in k x (g .there) (deposit-posted r g)
 change {b} (Answered.withdraws {k = k} {x = x} g) r = paid-out k x (g .there) (g .enough) (withdraw-posted r g)

@@ -10,7 +10,7 @@ use Rattle.book.specs.laws.Calls.{opening-tables, join-tables, deposit-t
 use Rattle.book.specs.laws.Taking.{take-tables, close-tables}
 
 sound-tables : {b : Book} {c : Call} {o : Outcome} → Answered b c o → SoundTables b → SoundTables (o .book)
-sound-tables (Answered.refused n) r = r
+sound-tables (Answered.refused n p) r = r
 sound-tables (Answered.joins g) r = join-tables r g
 sound-tables (Answered.deposits g) r = deposit-tables r g
 sound-tables (Answered.withdraws g) r = withdraw-tables r g

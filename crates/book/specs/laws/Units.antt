@@ -155,7 +155,7 @@ even-trade b buyer seller u g r =
 
 even : {b : Book} {c : Call} {o : Outcome} → Answered b c o → SoundTables b → Even b (o .book) (pick (is-accepted (o .answer)) (amounts c .traded) 0)
 unfolding amounts pay charge units-in-matches
-even {b} (Answered.refused n) r = even-none b
+even {b} (Answered.refused n p) r = even-none b
 even {b} (Answered.joins {residence = k} {fitness = f} g) r = even-join b k f (g .space) r
 even {b} (Answered.deposits g) r = even-posted refl (deposit-posted r g) refl
 even {b} (Answered.withdraws g) r = even-posted refl (withdraw-posted r g) refl

@@ -1,47 +1,37 @@
--- Offer meets its contract: the tests in their order, then the row of the seller. Assumes nothing.
-use mathlib.Core.Path.{_≡_}
-use mathlib.Core.Bool.{not}
-use Prim.Native.Nat.{_<_}
-use native.Mathlib.Omega.{arith}
-use lib.Dec.{leb, ltb}
-use Rattle.book.specs.declared.Outcome.{Outcome}
-use Rattle.book.specs.Rows.{offer-missing}
-use Rattle.book.specs.Answers.{refuse-if}
-use Rattle.book.specs.Tables.{account-at, free-receipts}
+-- Offer meets its contract: refused by its number, or the row of the seller changed. Assumes nothing.
+use mathlib.Core.Path.{_≡_, _∙_}
+use borrow.Author.Needs.{needs}
+use Rattle.book.specs.declared.Call.{Call}
+use Rattle.book.specs.declared.Offer.{Offer}
+use Rattle.book.specs.Rows.{with-offer}
+use Rattle.book.specs.Tables.{account-at, put-account}
+use Rattle.book.specs.Answers.{accept}
 use Rattle.book.specs.Offers.{offer}
-use Rattle.rows.specs.Needs.{calls}
-use Rattle.rows.specs.Chain.{chain}
+use Rattle.book.specs.Calls.{step}
+use Rattle.book.specs.laws.Answered.{MayOffer, refused-is, offer-accepted}
+use Rattle.rows.specs.Needs.{account-there}
+use Rattle.rows.specs.Places.{at-place}
 use Rattle.offers.proofs.offer.Statement.{statement}
 use Rattle.offers.proofs.offer.Tie as tie
 
--- past the tests of the market, the account, the units and the offer, an outcome is what the rest gives
-asked : (c : tie.Else5) → let a = c .before .before .before .before .before .before .before .before .before .args in let b = a .book in (z r : Outcome) → z ≡ r → z ≡ refuse-if (not (b .«open»)) 5 b (refuse-if (leb (b .«account_count») (a .seller)) 6 b (refuse-if (ltb (a .units) 1) 8 b (refuse-if (ltb 1_000 (a .units)) 8 b (refuse-if (not (offer-missing (account-at b (a .seller) .offer))) 12 b r))))
-asked c z r e = search (chain, e) depth 7
+may : (c : tie.Else1) → let a = c .before .before .before .before .before .args in MayOffer (a .book) (a .seller) (a .units) × (accept 0 (put-account (a .book) (a .seller) (with-offer (account-at (a .book) (a .seller)) (Offer.Units (a .units)))) ≡ offer (a .book) (a .seller) (a .units))
+may c = offer-accepted _ _ _ (c .before .offer-refusal .ensures) (c .if1 .left)
 
--- the seller is an account
-there : (c : tie.Else5) → c .before .before .before .before .before .before .before .before .before .args .seller < 32
-there c = search calls
+-- the place is the seller's
+found : (c : tie.Else1) → c .before .before .before .before .account-place .result ≡ c .before .before .before .before .before .args .seller
+found c = let s = c .before .before .before .before in s .account-place .ensures .0 ∙ at-place 32 _ (account-there _ (s .before .pre) _ (may c .0 .there))
 
 pub offer-spec : {M : Type 1} → statement M
-unfolding offer free-receipts
+unfolding step
 offer-spec =
     tie.close
     (tie.spec
-    (λ c. search chain)
-    (λ c. search chain)
-    (λ c. search chain)
-    (λ c. search chain)
-    (λ c. search calls)
-    (λ c. search calls)
-    (λ c κs. search calls)
-    (λ c. search chain depth 7)
-    (λ c κs. search calls)
-    (λ c. asked (c .before .before) _ _ (search chain))
-    (λ c κs. search calls)
-    (λ c. asked (c .before .before .before .before .before) _ _ (search chain))
-    (λ c κs. search calls)
-    (λ c. asked (c .before .before .before .before .before .before .before) _ _ (search chain))
-    (λ c κs. search calls)
-    (λ c. record { fits = omega (arith, there (c .before .before .before .before .before .before .before .before)) })
-    (λ c. there (c .before .before .before .before .before .before .before .before))
-    (λ c. rw (c .with-units-offered .ensures) (asked (c .before .before .before .before .before .before .before .before) _ _ (search chain))))
+    (λ c κs. search needs)
+    (λ c. search needs)
+    (λ c. search needs)
+    (λ c κs. (c .before .before .before .pre, rw (c .before .before .account-place .ensures .0)))
+    (λ c. refused-is _ (Call.Offer _ _) (c .before .offer-refusal .ensures) (c .if1 .taken))
+    (λ c κs. may c .0 .few)
+    (λ c. search needs)
+    (λ c. search needs)
+    (λ c. let e = c .before in rw (c .with-units-offered .ensures, found e) (may e .1)))
