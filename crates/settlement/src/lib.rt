@@ -46,10 +46,8 @@ fn pay(mut book: Book, account: u8, amount: u64) -> Book
     ensures { λ r. ⌜ r ≡ pay book account amount ⌝ }
 {
     let k = account as usize;
-    let mut accounts = book.accounts;
-    let a = accounts[k];
-    accounts[k] = rows::credited(a, amount);
-    book.accounts = accounts;
+    let a = book.accounts[k];
+    book.accounts[k] = rows::credited(a, amount);
     book
 }
 
@@ -61,10 +59,8 @@ fn charge(mut book: Book, account: u8, amount: u64) -> Book
     ensures { λ r. ⌜ r ≡ charge book account amount ⌝ }
 {
     let k = account as usize;
-    let mut accounts = book.accounts;
-    let a = accounts[k];
-    accounts[k] = rows::debited(a, amount);
-    book.accounts = accounts;
+    let a = book.accounts[k];
+    book.accounts[k] = rows::debited(a, amount);
     book
 }
 
@@ -74,10 +70,8 @@ fn set_stage(mut book: Book, number: u64, held: u64, stage: Stage) -> Book
     ensures { λ r. ⌜ r ≡ set-stage book number held stage ⌝ }
 {
     let j = number as usize;
-    let mut matches = book.matches;
-    let m = matches[j];
-    matches[j] = rows::with_held(m, held, stage);
-    book.matches = matches;
+    let m = book.matches[j];
+    book.matches[j] = rows::with_held(m, held, stage);
     book
 }
 
@@ -274,14 +268,12 @@ fn settle_due(book: Book, number: u64) -> Book
     ensures { λ r. ⌜ r ≡ settled book number (match-at book number) (buyer-fault book number) (seller-fault book number) ⌝ }
 {
     let j = number as usize;
-    let matches = book.matches;
-    let m = matches[j];
+    let m = book.matches[j];
     let v = value(m, book.tonnes);
     let k = m.buyer as usize;
-    let accounts = book.accounts;
-    let buyer = accounts[k];
+    let buyer = book.accounts[k];
     let i = m.seller as usize;
-    let seller = accounts[i];
+    let seller = book.accounts[i];
     let receipts = book.receipts;
     let frozen = frozen_receipts(receipts, book.receipt_count, number);
     let x = fault(buyer.fit, rows::cash_below(buyer, v), book.rate);

@@ -27,4 +27,4 @@ settle-due-spec =
     (λ c κs. search needs)
     (λ c κs. search calls)
     (λ c κs. search (calls, money))
-    (λ c. rw (c .settled .ensures, c .before .fault2 .ensures .0, c .before .before .seller-lacks .ensures, c .before .before .before .fault .ensures .0, c .before .before .before .before .cash-below .ensures, c .before .before .before .before .before .frozen-receipts .ensures, c .before .before .before .before .before .before .before .before .before .before .before .before .value .ensures .0)))
+    (λ c. rw (c .settled .ensures, c .before .fault2 .ensures .0, c .before .before .seller-lacks .ensures, c .before .before .before .fault .ensures .0, c .before .before .before .before .cash-below .ensures, c .before .before .before .before .before .frozen-receipts .ensures, c .before .before .before .before .before .before .before .before .before .before .before .value .ensures .0)))
