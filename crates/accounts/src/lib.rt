@@ -1,6 +1,5 @@
 // The opening of a book, and calls 1 to 4 and 11: Join, Deposit, Withdraw, Trade, Day.
 ghost use mathlib.Core.Path.{_≡_};
-ghost use Prim.Native.Nat.{_≤_, _<_};
 ghost use Rattle.book.specs.Answers.{refuse, refusal-of};
 ghost use Rattle.book.specs.Opening.{no-book, opening, next-day};
 ghost use Rattle.book.specs.Accounts.{join, deposit, withdraw, trade};

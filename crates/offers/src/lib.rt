@@ -1,7 +1,6 @@
 // Calls 7 to 9: Declare, Offer, Retract.
 ghost use mathlib.Core.Path.{_≡_};
 ghost use mathlib.Core.Bool.{_&&_};
-ghost use Prim.Native.Nat.{_≤_, _<_};
 ghost use Rattle.book.specs.Rows.{heat-missing};
 ghost use Rattle.book.specs.Offers.{declare, offer, retract};
 ghost use Rattle.book.specs.Answers.{refusal-of};

@@ -81,4 +81,4 @@ module _ (b : Book) (r : Reached b) where
   pub match-price-small : (j : ℕ) → j < b .«match_count» → match-at b j .price ≤ 1_000_000
   match-price-small j h = s .tables .core .matches .rows j h .price-high
 
-pub ruleset calls = (account-there, account-place, newest-small, receipt-there, receipt-place, match-there, match-place, buyer-there, seller-there, held-small, match-units-small, match-price-small, tonnes-small, rate-small, price-small, day-small, deposits-fit, cash-small, accounts-few, receipts-few, matches-few, le-ltb, lt-ltb, le-leb, lt-leb, eq-eqb, ne-eqb, needs)
+pub ruleset calls = (account-there, account-place, receipt-there, receipt-place, match-there, match-place, buyer-there, seller-there, held-small, match-units-small, match-price-small, tonnes-small, rate-small, price-small, day-small, deposits-fit, cash-small, accounts-few, receipts-few, matches-few, le-ltb, lt-ltb, le-leb, lt-leb, eq-eqb, ne-eqb, needs)

@@ -1,21 +1,21 @@
 -- In every reached book each account's lots say what the request's words say of them. By the order of the lots' days. Assumes nothing.
-use mathlib.Core.Path.{_≡_, refl, _∙_}
+use mathlib.Core.Path.{_≡_, refl}
 use mathlib.Core.Bool.{Bool, true, false, not, _&&_}
 use mathlib.Core.List.{List, [], _∷_}
 use Prim.Native.Nat.{ℕ, _+_, _-_, _≤_, _<_}
 use native.Mathlib.Omega.{arith}
 use lib.Dec.{eqb, ltb}
-use borrow.Author.Tests.{eqb-true, eqb-false, eq-eqb, ne-eqb, ltb-true, ltb-false, lt-ltb, le-ltb}
+use borrow.Author.Tests.{eqb-true, eqb-false, ne-eqb, ltb-true, ltb-false, lt-ltb}
 use Rattle.coal.specs.Choice.{pick}
 use Rattle.book.specs.Types.{Side, Lot, Lots, Account, Book}
 use Rattle.book.specs.Counting.{one-if}
-use Rattle.book.specs.Rows.{lots-of, lots-on, lot-off, lots-off, needs-fifth, with-position, units-on, units-off}
+use Rattle.book.specs.Rows.{lots-of, lot-off, needs-fifth, with-position, units-on, units-off}
 use Rattle.book.specs.Tables.{account-at}
 use Rattle.book.specs.Lists.{Reached}
 use Rattle.book.specs.Ages.{lots-total, older-lot, opened-before, other-day, Ages}
 use Rattle.book.specs.laws.Counting.{by-pick, one-most}
-use Rattle.book.specs.laws.Sound.{SoundLots, SoundAccount}
-use Rattle.book.specs.laws.Walking.{All, all-map}
+use Rattle.book.specs.laws.Sound.{SoundAccount}
+use Rattle.book.specs.laws.Walking.{all-map}
 use Rattle.book.specs.laws.Listing.{Rising}
 use Rattle.book.specs.laws.Sharing.{of-day, rising-lots, none-older-lots}
 use Rattle.book.specs.laws.Reaching.{sound}

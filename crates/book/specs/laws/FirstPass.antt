@@ -6,7 +6,7 @@ use mathlib.Core.Bool.{Bool, true, false, _&&_}
 use mathlib.Core.List.{List, [], _∷_}
 use Prim.Native.Nat.{ℕ, _+_, _-_, _≤_, _<_, min}
 use native.Mathlib.Omega.{arith}
-use lib.Dec.{eqb, ltb}
+use lib.Dec.{ltb}
 use borrow.Author.Tests.{ltb-false}
 use Rattle.coal.specs.Choice.{pick}
 use Rattle.book.specs.Types.{ReceiptState, Lot, Book, Call, Outcome, Listed}
@@ -20,7 +20,7 @@ use Rattle.book.specs.Calls.{step}
 use Rattle.book.specs.Ages.{lots-total, older-lot}
 use Rattle.book.specs.Lists.{accepts}
 use Rattle.book.specs.Demand3.{overseas-units-open, bonded-units-offered, frozen-for-buyer, gave, gave-out, lot-at, counts-for, lot-gave, OverseasBuyer, FirstPass}
-use Rattle.book.specs.laws.Counting.{by-pick, by-eq, and-left, and-right, sum-same, sum-none, sum-change, tally-same, tally-none, sum-plus, only, only-here, only-else, impossible}
+use Rattle.book.specs.laws.Counting.{by-pick, and-left, and-right, sum-same, sum-none, sum-change, tally-same, tally-none, sum-plus, only, only-here, only-else, impossible}
 use Rattle.book.specs.laws.Answered.{Answered, answered}
 use Rattle.book.specs.laws.Sound.{Core, SoundTables}
 use Rattle.book.specs.laws.Pairing.{Pairable, pairable-long, pairable-short, Paired, pair-core, paired-long, paired-short}

@@ -1,13 +1,13 @@
 -- Units given out from the front of a list of lots: what each account gets, and that in a list by days no lot gets a unit before those of earlier
 -- days are filled. By induction on the list. Assumes nothing.
-use mathlib.Core.Path.{_≡_, refl, sym, ap, _∙_}
+use mathlib.Core.Path.{_≡_, refl, ap, _∙_}
 use mathlib.Core.Bool.{Bool, true, false}
 use mathlib.Core.List.{List, [], _∷_}
 use Prim.Native.Nat.{ℕ, zero, suc, _+_, _-_, _≤_, _<_, min}
 use native.Mathlib.Omega.{arith}
 use lib.Dec.{ltb, eqb}
 use lib.ListN.{getD}
-use borrow.Author.Tests.{ltb-true, ltb-false, eqb-true, eqb-false, lt-ltb, le-ltb}
+use borrow.Author.Tests.{ltb-true, ltb-false, eqb-true, lt-ltb, le-ltb}
 use Rattle.coal.specs.Choice.{pick}
 use Rattle.book.specs.Types.{Lot, Account, Listed}
 use Rattle.book.specs.Rows.{no-lot, lots-of}

@@ -15,8 +15,6 @@ use Rattle.book.specs.Tables.{account-at, frozen-at}
 
 -- the lots of an account with so many units, at this day
 pub record SoundLots (day units : ℕ) (l : Lots) : Type 0 where
-  -- their units are the account's
-  pub whole : l .oldest .units + l .second .units + l .third .units + l .newest .units ≡ units
   -- the days rise, and none is to come
   pub second-day : l .oldest .day ≤ l .second .day
   pub third-day : l .second .day ≤ l .third .day
@@ -30,6 +28,8 @@ pub record SoundLots (day units : ℕ) (l : Lots) : Type 0 where
   pub second-taken : 0 < l .oldest .units → 0 < l .second .units
   pub third-taken : 0 < l .second .units → 0 < l .third .units
   pub newest-taken : 0 < l .third .units → 0 < l .newest .units
+  -- their units are the account's
+  pub whole : l .oldest .units + l .second .units + l .third .units + l .newest .units ≡ units
 
 -- an account of a book at this day
 pub record SoundAccount (day : ℕ) (a : Account) : Type 0 where
