@@ -1,4 +1,4 @@
--- Demand 3, the statement, in the words of document 01, "Lists". Assumes nothing.
+-- Demand 3, the statement, in the words of document 01, "Lists", and on older positions in those of document 02, Job 5. Assumes nothing.
 use mathlib.Core.Path.{_≡_}
 use mathlib.Core.Bool.{Bool, true, false, _&&_}
 use mathlib.Core.List.{List, [], _∷_, _++_}

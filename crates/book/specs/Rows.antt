@@ -46,7 +46,7 @@ credited a x = with-cash a (a .cash +ℤ pos x)
 abbrev pub debited : Account → ℕ → Account
 debited a x = with-cash a (a .cash -ℤ pos x)
 
--- ---- lots: "An account now records up to four opening days with the units of each."
+-- ---- lots (document 02, Job 5): "An account now records up to four opening days with the units of each."
 
 -- the four places, oldest first; one with 0 units is free
 abbrev pub lots-of : Account → List Lot

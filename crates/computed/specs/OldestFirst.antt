@@ -1,4 +1,4 @@
--- The first pass takes buyers by earlier opening day, then lower number, and gives bonded receipts only. Assumes nothing.
+-- The first pass takes lots of overseas buyers by day, then account number, and gives bonded receipts only. Assumes nothing.
 use mathlib.Core.Path.{_≡_, refl}
 use mathlib.Core.List.{List, [], _∷_, _++_}
 use lib.IntN.{pos}

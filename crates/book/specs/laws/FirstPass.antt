@@ -1,5 +1,5 @@
 -- The first pass of an accepted Close, in the words of demand 3: it gave out the lesser of what was open and what was offered, and filled older
--- positions first. What the walk keeps, from its lists' start to the end of one; then what the later pairings leave of it. Assumes nothing.
+-- lots first. What the walk keeps, from its lists' start to the end of one; then what the later pairings leave of it. Assumes nothing.
 use mathlib.Core.Path.{_≡_, refl, sym, ap, _∙_}
 use mathlib.Core.Logic.{_⊎_, inl, inr}
 use mathlib.Core.Bool.{Bool, true, false, _&&_}
@@ -302,6 +302,6 @@ closed-holds {b} (Answered.closes g) t h = lapse-holds b (all-passes b) (go (b .
     go true q = board-holds b (all-passes b) q (t .core)
     go false q = passes-hold b q (t .matches-open (g .is-open)) (t .core)
 
--- the first pass of an accepted Close gave out the lesser of the two, and filled older positions first
+-- the first pass of an accepted Close gave out the lesser of the two, and filled older lots first
 pub first-pass-holds : (b : Book) → SoundTables b → accepts b Call.Close ≡ true → FirstPass b (step b Call.Close .book)
 first-pass-holds b = closed-holds (answered b Call.Close)
