@@ -216,38 +216,25 @@ pub fn trade_refusal(
     if !book.open {
         return 5;
     }
-    if count <= buyer {
-        return 6;
-    }
-    if count <= seller {
+    if (count <= buyer) | (count <= seller) {
         return 6;
     }
     if buyer == seller {
         return 7;
     }
-    if units < 1 {
+    if (units < 1) | (1_000 < units) {
         return 8;
     }
-    if 1_000 < units {
-        return 8;
-    }
-    if rows::is_short(bought) {
+    if rows::is_short(bought) | rows::is_long(sold) {
         return 9;
-    }
-    if rows::is_long(sold) {
-        return 9;
-    }
-    if rows::would_pass(bought, units) {
-        return 10;
-    }
-    if rows::would_pass(sold, units) {
-        return 10;
     }
     let day = book.day;
-    if rows::needs_fifth(bought, day) {
-        return 28;
+    let passes = rows::would_pass(bought, units) | rows::would_pass(sold, units);
+    let fifth = rows::needs_fifth(bought, day) | rows::needs_fifth(sold, day);
+    if passes {
+        return 10;
     }
-    if rows::needs_fifth(sold, day) {
+    if fifth {
         return 28;
     }
     0

@@ -19,6 +19,7 @@ pub mod Journal
 pub mod Bound
 pub mod Reaching
 pub mod Ages
+pub mod Most
 pub mod Units
 pub mod Money
 pub mod Given

@@ -1,14 +1,16 @@
 -- Lots: a trade on the newest lot's day adds to it, a fifth opening day is refused, Take uses up the oldest, and the first pass goes by lots, whose
 -- neighbours of one pair are one match. Assumes nothing.
 use mathlib.Core.Path.{_≡_, refl}
-use mathlib.Core.List.{List, [], _∷_, _++_}
+use mathlib.Core.List.{List, [], _∷_, _++_, map}
 use Prim.Native.Nat.{ℕ}
 use lib.IntN.{pos}
 use Rattle.book.specs.declared.Call.{Call}
 use Rattle.book.specs.declared.Lot.{Lot}
 use Rattle.book.specs.Rows.{lots-of}
 use Rattle.book.specs.Tables.{account-at}
+use Rattle.book.specs.Calls.{step}
 use Rattle.book.specs.Lists.{after}
+use Rattle.book.specs.Demand3.{counts-for, lot-gave}
 use Rattle.computed.specs.Script.{Line, line, ok, no, calls, book-of, play, account, receipt, matched, fund, ledger-after, given-by-close}
 
 -- what comes before Close
@@ -91,3 +93,8 @@ ledger = refl
 given : given-by-close 0 1 10 100 front ≡ record { wanted = 8; offered = 6; out = 6; to-each = 4 ∷ 2 ∷ 0 ∷ 0 ∷ 0 ∷ [] }
 unfolding given-by-close
 given = refl
+
+-- what the first pass gave each lot of the two overseas buyers
+by-lot : let b = after (book-of 0 1 10 100) (calls front) in let e = step b Call.Close .book in map (lot-gave b e 0) (0 ∷ 1 ∷ 2 ∷ 3 ∷ []) ++ map (lot-gave b e 1) (0 ∷ 1 ∷ 2 ∷ 3 ∷ []) ≡ 2 ∷ 1 ∷ 1 ∷ 0 ∷ 0 ∷ 0 ∷ 0 ∷ 2 ∷ []
+unfolding play after given-by-close counts-for
+by-lot = refl

@@ -1,13 +1,13 @@
 -- A chain of refusals: one law for each kind of test that stops a call and one for each that lets it pass, applied backwards by `search chain`.
 -- Assumes nothing.
 use mathlib.Core.Path.{_≡_, refl, sym, ap, _∙_}
-use mathlib.Core.Bool.{Bool, true, false, not}
+use mathlib.Core.Bool.{Bool, true, false, not, _||_}
 use Prim.Native.Nat.{ℕ, _≤_, _<_}
 use lib.Dec.{leb, ltb, eqb}
 use borrow.Author.Tests.{le-ltb, lt-ltb, le-leb, lt-leb, eq-eqb, ne-eqb}
 use Rattle.book.specs.declared.Book.{Book}
 use Rattle.book.specs.declared.Outcome.{Outcome}
-use Rattle.book.specs.Answers.{refuse, refuse-if}
+use Rattle.book.specs.Answers.{refuse, refuse-if, refusal-of}
 
 -- the answer of a function that promises a test is what the test gives
 pub told : {s t v : Bool} → s ≡ t → s ≡ v → t ≡ v
@@ -60,3 +60,17 @@ module _ (n : ℕ) (b : Book) (r : Outcome) where
     past-eqb x y h e = past (eqb x y) (ne-eqb _ _ h) e
 
 pub ruleset chain = (stop-leb, stop-ltb, stop-eqb, past-leb, past-ltb, past-eqb, stop, past, stop-told, past-told, stop-not, past-not, stop-ltb-told, past-ltb-told)
+
+-- ---- the number of a refusal alone
+
+abbrev pub number : Outcome → ℕ
+number o = refusal-of (o .answer)
+
+-- two tests of one number: where one of them holds, and where neither does
+pub either-gives : (n : ℕ) (b : Book) (r : Outcome) (s t : Bool) → s || t ≡ true → n ≡ number (refuse-if s n b (refuse-if t n b r))
+either-gives n b r true t h = refl
+either-gives n b r false t h = rw h refl
+
+pub neither : (s t : Bool) → s || t ≡ false → (s ≡ false) × (t ≡ false)
+neither true t h = (h, cc)
+neither false t h = (refl, h)
