@@ -305,8 +305,7 @@ pub fn settle(book: Book, number: u64) -> Outcome
     ensures { λ r. ⌜ r ≡ settle book number ⌝ }
 {
     let j = rows::match_place(number);
-    let matches = book.matches;
-    let m = matches[j];
+    let m = book.matches[j];
     let refused = settle_refusal(book, m, number);
     if refused != 0 {
         return Outcome {
@@ -404,8 +403,7 @@ pub fn measure(book: Book, number: u64, w: u64, q: u64, m: u64, s: u64, f: u64, 
     ensures { λ r. ⌜ r ≡ measure book number w q m s f a ⌝ }
 {
     let j = rows::match_place(number);
-    let matches = book.matches;
-    let c = matches[j];
+    let c = book.matches[j];
     let refused = measure_refusal(book, c, number, w, q, m, s, f, a);
     if refused != 0 {
         return Outcome {
@@ -446,8 +444,7 @@ pub fn invoice(book: Book, number: u64) -> Outcome
     ensures { λ r. ⌜ r ≡ invoice book number ⌝ }
 {
     let j = rows::match_place(number);
-    let matches = book.matches;
-    let m = matches[j];
+    let m = book.matches[j];
     let refused = invoice_refusal(book, m, number);
     if refused != 0 {
         return Outcome {
@@ -504,8 +501,7 @@ pub fn terminate(book: Book, number: u64, party: u64) -> Outcome
     ensures { λ r. ⌜ r ≡ terminate book number party ⌝ }
 {
     let j = rows::match_place(number);
-    let matches = book.matches;
-    let m = matches[j];
+    let m = book.matches[j];
     let refused = terminate_refusal(book, m, number, party);
     if refused != 0 {
         return Outcome {

@@ -12,12 +12,12 @@ use Rattle.rows.specs.Places.{at-place}
 use Rattle.settlement.proofs.settle.Statement.{statement}
 use Rattle.settlement.proofs.settle.Tie as tie
 
-may : (c : tie.Else1) → let a = c .before .before .before .before .before .args in MaySettle (a .book) (a .number) × (accept 0 (settled (a .book) (a .number) (match-at (a .book) (a .number)) (buyer-fault (a .book) (a .number)) (seller-fault (a .book) (a .number))) ≡ settle (a .book) (a .number))
+may : (c : tie.Else1) → let a = c .before .before .before .before .args in MaySettle (a .t1) (a .number) × (accept 0 (settled (a .t1) (a .number) (match-at (a .t1) (a .number)) (buyer-fault (a .t1) (a .number)) (seller-fault (a .t1) (a .number))) ≡ settle (a .t1) (a .number))
 may c = settle-accepted _ _ (c .before .settle-refusal .ensures) (c .if1 .left)
 
 -- the place is the match's
-found : (c : tie.Else1) → c .before .before .before .before .match-place .result ≡ c .before .before .before .before .before .args .number
-found c = let s = c .before .before .before .before in s .match-place .ensures .0 ∙ at-place 256 _ (match-there _ (s .before .pre) _ (may c .0 .there))
+found : (c : tie.Else1) → c .before .before .before .match-place .result ≡ c .before .before .before .before .args .number
+found c = let s = c .before .before .before in s .match-place .ensures .0 ∙ at-place 256 _ (match-there _ (s .before .pre) _ (may c .0 .there))
 
 pub settle-spec : {M : Type 1} → statement M
 unfolding step
@@ -27,7 +27,7 @@ settle-spec =
     (λ c κs. search needs)
     (λ c. search needs)
     (λ c. search needs)
-    (λ c κs. (c .before .before .before .pre, rw (c .before .before .match-place .ensures .0)))
+    (λ c κs. (c .before .before .pre, rw (c .before .match-place .ensures .0)))
     (λ c. refused-is _ (Call.Settle _) (c .before .settle-refusal .ensures) (c .if1 .taken))
-    (λ c κs. (c .before .before .before .before .before .pre, may c .0 .there))
+    (λ c κs. (c .before .before .before .before .pre, may c .0 .there))
     (λ c. rw (c .settle-due .ensures) (may (c .before) .1)))
