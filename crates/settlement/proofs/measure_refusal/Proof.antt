@@ -1,15 +1,13 @@
 -- The refusal of Measure meets its contract: the tests in their order. Assumes nothing.
 use mathlib.Core.Path.{_≡_, ap}
 use mathlib.Core.Bool.{not}
-use Prim.Native.Nat.{ℕ}
 use borrow.Author.Tests.{le-leb, lt-leb}
 use borrow.Author.Needs.{needs}
-use Rattle.book.specs.declared.Outcome.{Outcome}
-use Rattle.book.specs.Answers.{refuse, accept, refusal-of}
+use Rattle.book.specs.Answers.{refuse, accept}
 use Rattle.book.specs.Tables.{match-at}
 use Rattle.book.specs.Settlement.{cargo, measured, amount-due, measure}
 use Rattle.rows.specs.Needs.{calls}
-use Rattle.rows.specs.Chain.{told, chain}
+use Rattle.rows.specs.Chain.{told, chain, number}
 use Rattle.rows.specs.Places.{match-found}
 use Rattle.settlement.specs.Money.{any-of-six}
 use Rattle.settlement.proofs.measure_refusal.Statement.{statement}
@@ -18,9 +16,6 @@ use Rattle.settlement.proofs.measure_refusal.Tie as tie
 -- the row is the match's
 row : (c : tie.Else2) → let a = c .before .before .before .args in match-at (a .book) (a .number) ≡ a .c
 row c = let p = c .before .before .before .pre in match-found _ (p .0) _ (c .if2 .left) _ (p .1)
-
-abbrev number : Outcome → ℕ
-number o = refusal-of (o .answer)
 
 pub measure-refusal-spec : {M : Type 1} → statement M
 unfolding measure
