@@ -1,5 +1,6 @@
 -- "Close can now make up to 125 matches, so the table grows to 256 and Take still stops at 64": of every reached book. By what the passes keep. Assumes nothing.
 use mathlib.Core.Path.{_≡_}
+use mathlib.Core.Bool.{true}
 use Prim.Native.Nat.{ℕ, _+_, _-_, _≤_}
 use native.Mathlib.Omega.{arith}
 use Rattle.book.specs.Types.{Book, Answer, Call, Outcome}
@@ -26,3 +27,7 @@ close-most {b} h = carried (answered b Call.Close) (reached-tables h)
 -- the matches of a book: those at which Take stops, and those of a Close
 pub matches-most : {b : Book} → Reached b → b .«match_count» ≤ 64 + 125
 matches-most h = omega (arith, reached-tables h .matches-few)
+
+-- before a Close: "Take still stops at 64"
+pub open-most : {b : Book} → Reached b → b .«open» ≡ true → b .«match_count» ≤ 64
+open-most h = reached-tables h .matches-open
