@@ -87,7 +87,8 @@ fn call(r: &mut Random, board: bool, accounts: u64, late: u64) -> Vec<u64> {
             75..=77 => 9,
             78..=88 => 10,
             89..=91 => 11,
-            92..=94 => 13,
+            92..=93 => 13,
+            94 => 17,
             95 => 14,
             96 => 15,
             97 => 16,
@@ -97,8 +98,9 @@ fn call(r: &mut Random, board: bool, accounts: u64, late: u64) -> Vec<u64> {
         x => match x {
             0..=4 => 12,
             5..=19 => 11,
-            20..=59 => 13,
-            60..=69 => if board { 14 } else { 13 },
+            20..=49 => 13,
+            50..=51 => 17,
+            52..=69 => if board { 14 } else { 17 },
             70..=84 => 15,
             85..=89 => 16,
             90..=93 => 2,
@@ -120,7 +122,7 @@ fn call(r: &mut Random, board: bool, accounts: u64, late: u64) -> Vec<u64> {
         10 => c.extend([k, l]),
         11 => c.push(price(r)),
         12 => {}
-        13 | 15 => c.push(j),
+        13 | 15 | 17 => c.push(j),
         14 => c.extend([
             j,
             if r.chance(50) { r.below(100_000_000) } else { near(r, &[19_500_000, 20_000_000, 20_500_000, 40_000_000_000]) },
@@ -184,8 +186,9 @@ fn short_call(r: &mut Random, board: bool, accounts: u64, late: u64) -> Vec<u64>
         (65..=67, true) => vec![9, k],
         (68..=77, true) => vec![10, k, l],
         (78..=87, true) | (0..=14, false) => vec![11, small],
-        (88..=94, true) | (15..=54, false) => vec![13, j],
-        (55..=74, false) => vec![15, j],
+        (88..=94, true) | (15..=44, false) => vec![13, j],
+        (45..=64, false) => vec![17, j],
+        (65..=74, false) => vec![15, j],
         (97..=99, false) => vec![12],
         _ => vec![15, j],
     }

@@ -1,4 +1,4 @@
-//! The machine: a book and its sixteen calls, changed in place.
+//! The machine: a book and its seventeen calls, changed in place.
 
 use std::cmp::Ordering;
 
@@ -23,6 +23,7 @@ pub enum Stage {
     Held,
     Closed,
     Ended,
+    Funded,
 }
 
 /// An opening day with its units (document 02, Job 5).
@@ -237,10 +238,11 @@ impl Book {
             10 => self.take(a[0], a[1]),
             11 => self.next_day(a[0]),
             12 => self.close(),
-            13 => self.settle(a[0]),
+            13 => self.pay_match(a[0]),
             14 => self.measure(a[0], a[1], a[2], a[3], a[4], a[5], a[6]),
             15 => self.invoice(a[0]),
-            _ => self.terminate(a[0], a[1]),
+            16 => self.terminate(a[0], a[1]),
+            _ => self.hand_over(a[0]),
         }
     }
 
@@ -524,7 +526,8 @@ impl Book {
         }
     }
 
-    fn settle(&mut self, j: u64) -> Answer {
+    /// Document 02, Job 6: faults are judged here, and V is held from here on.
+    fn pay_match(&mut self, j: u64) -> Answer {
         let j = self.match_number(j)?;
         no(self.matches[j].stage != Stage::Paired, 22)?;
         no(self.day < self.matches[j].due, 23)?;
@@ -549,19 +552,8 @@ impl Book {
             return Ok(0);
         }
         self.charge(m.buyer, v);
-        if self.board {
-            self.matches[j].held = v;
-            self.matches[j].stage = Stage::Prepaid;
-        } else {
-            let part = percent_down(80, v);
-            self.pay(m.seller, part);
-            self.matches[j].held = v - part;
-            self.matches[j].stage = Stage::Held;
-            for r in self.receipts.iter_mut().filter(|r| r.state == State::Frozen(j)) {
-                r.state = State::Free;
-                r.owner = m.buyer;
-            }
-        }
+        self.matches[j].held = v;
+        self.matches[j].stage = if self.board { Stage::Prepaid } else { Stage::Funded };
         Ok(0)
     }
 
@@ -607,6 +599,22 @@ impl Book {
         self.punish(j, buyer_fault, seller_fault);
         self.matches[j].held = 0;
         self.matches[j].stage = Stage::Ended;
+        Ok(0)
+    }
+
+    fn hand_over(&mut self, j: u64) -> Answer {
+        let j = self.match_number(j)?;
+        no(self.matches[j].stage != Stage::Funded, 22)?;
+        let v = self.value(j);
+        let (buyer, seller) = (self.matches[j].buyer, self.matches[j].seller);
+        let part = percent_down(80, v);
+        self.pay(seller, part);
+        self.matches[j].held = v - part;
+        self.matches[j].stage = Stage::Held;
+        for r in self.receipts.iter_mut().filter(|r| r.state == State::Frozen(j)) {
+            r.state = State::Free;
+            r.owner = buyer;
+        }
         Ok(0)
     }
 }

@@ -1,11 +1,11 @@
--- The sixteen calls as one step of the machine. Assumes nothing.
+-- The seventeen calls as one step of the machine. Assumes nothing.
 use Rattle.book.specs.Types.{Book, Outcome, Call}
 use Rattle.book.specs.Opening.{next-day}
 use Rattle.book.specs.Accounts.{join, deposit, withdraw, trade}
 use Rattle.book.specs.Receipts.{lodge, strike}
 use Rattle.book.specs.Offers.{declare, offer, retract, take-offer}
 use Rattle.book.specs.Closing.{close}
-use Rattle.book.specs.Settlement.{settle, measure, invoice, terminate}
+use Rattle.book.specs.Settlement.{pay-match, measure, invoice, terminate, hand-over}
 
 -- the answer to a call, and the book that it leaves
 unfoldable pub step : Book → Call → Outcome
@@ -21,7 +21,8 @@ step b (Call.Retract seller) = retract b seller
 step b (Call.Take buyer seller) = take-offer b buyer seller
 step b (Call.Day p) = next-day b p
 step b Call.Close = close b
-step b (Call.Settle j) = settle b j
+step b (Call.Pay j) = pay-match b j
 step b (Call.Measure j w q m s f a) = measure b j w q m s f a
 step b (Call.Invoice j) = invoice b j
 step b (Call.Terminate j party) = terminate b j party
+step b (Call.HandOver j) = hand-over b j

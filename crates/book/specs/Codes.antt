@@ -20,15 +20,16 @@ state-number ReceiptState.Free = 0
 state-number (ReceiptState.Frozen j) = 1
 state-number ReceiptState.Struck = 2
 
--- "a stage: 0 paired, 1 prepaid, 2 held, 3 closed, 4 ended"
+-- "a stage: 0 paired, 1 prepaid, 2 held, 3 closed, 4 ended"; "the new stage 5, funded"
 abbrev pub stage-number : Stage → ℕ
 stage-number Stage.Paired = 0
 stage-number Stage.Prepaid = 1
 stage-number Stage.Held = 2
 stage-number Stage.Closed = 3
 stage-number Stage.Ended = 4
+stage-number Stage.Funded = 5
 
--- "Calls, by number"
+-- "Calls, by number"; "Pay (call 13)", "Hand over (call 17)"
 abbrev pub call-number : Call → ℕ
 call-number (Call.Join residence fitness) = 1
 call-number (Call.Deposit k x) = 2
@@ -42,7 +43,8 @@ call-number (Call.Retract seller) = 9
 call-number (Call.Take buyer seller) = 10
 call-number (Call.Day p) = 11
 call-number Call.Close = 12
-call-number (Call.Settle j) = 13
+call-number (Call.Pay j) = 13
 call-number (Call.Measure j w q m s f a) = 14
 call-number (Call.Invoice j) = 15
 call-number (Call.Terminate j party) = 16
+call-number (Call.HandOver j) = 17

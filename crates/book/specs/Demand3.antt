@@ -7,9 +7,9 @@ use lib.Dec.{eqb}
 use lib.IntN.{ℤ, pos, _+ℤ_, _-ℤ_}
 use lib.ListN.{getD}
 use Rattle.coal.specs.Choice.{pick}
-use Rattle.book.specs.Types.{ReceiptState, Stage, Lot, Book, Call}
+use Rattle.book.specs.Types.{ReceiptState, Lot, Book, Call}
 use Rattle.book.specs.Counting.{sum, total, tally}
-use Rattle.book.specs.Rows.{no-lot, lots-of, is-free, long-units, short-units, bonded-only}
+use Rattle.book.specs.Rows.{no-lot, lots-of, is-free, long-units, short-units, bonded-only, has-frozen}
 use Rattle.book.specs.Tables.{account-at, receipt-at, match-at, free-receipts, frozen-receipts}
 use Rattle.book.specs.Answers.{is-accepted}
 use Rattle.book.specs.Opening.{opening}
@@ -95,20 +95,20 @@ pub record FirstPass (b e : Book) : Type 0 where
 
 -- ---- receipts
 
--- "frozen for exactly one match, still paired, and belongs to that match's seller"; "still paired is stage 0"
+-- "frozen for exactly one match, .., and belongs to that match's seller"; "a frozen receipt may now be for a paired or a funded match"
 pub record FrozenForOne (b : Book) (i : ℕ) : Type 0 where
   pub number : ℕ
   pub there : number < b .«match_count»
   pub frozen : receipt-at b i .state ≡ ReceiptState.Frozen number
   pub only : (j : ℕ) → receipt-at b i .state ≡ ReceiptState.Frozen j → j ≡ number
-  pub paired : match-at b number .stage ≡ Stage.Paired
+  pub paired-or-funded : has-frozen (match-at b number .stage) ≡ true
   pub sellers : receipt-at b i .owner ≡ match-at b number .seller
 
 -- ---- the demand
 
 -- what holds of a list of calls from a fresh book b, with e the book after the list
 pub record Holds (b : Book) (cs : List Call) (e : Book) : Type 0 where
-  -- "Cash of all accounts + all money held for matches + the fund = deposits accepted less cash withdrawals accepted."
+  -- "Cash of all accounts + all money held for matches + the fund = deposits accepted less cash withdrawals accepted."; the sums "include funded matches"
   pub money : total-cash e +ℤ pos (total-held e) +ℤ pos (e .fund) ≡ pos (deposits-accepted b cs) -ℤ pos (withdrawals-accepted b cs)
   -- "Units traded = units in matches + units still long"
   pub traded : units-traded b cs ≡ units-in-matches e + units-long e
@@ -116,7 +116,7 @@ pub record Holds (b : Book) (cs : List Call) (e : Book) : Type 0 where
   pub balanced : units-long e ≡ units-short e
   -- "Each account's cash is the sum of its entries in the list's accepted calls."
   pub entered : (k : ℕ) → k < e .«account_count» → account-at e k .cash ≡ account-entries k b cs
-  -- "Each frozen receipt is frozen for exactly one match, still paired, and belongs to that match's seller;"
+  -- "Each frozen receipt is frozen for exactly one match, .., and belongs to that match's seller;"; "a frozen receipt may now be for a paired or a funded match"
   pub frozen : (i j : ℕ) → i < e .«receipt_count» → receipt-at e i .state ≡ ReceiptState.Frozen j → FrozenForOne e i
   -- "no match has more of them than units."
   pub no-more : (j : ℕ) → j < e .«match_count» → frozen-receipts e j ≤ match-at e j .units
@@ -124,6 +124,6 @@ pub record Holds (b : Book) (cs : List Call) (e : Book) : Type 0 where
   pub closed : (front back : List Call) → cs ≡ front ++ Call.Close ∷ back → accepts (after b front) Call.Close ≡ true → FirstPass (after b front) (step (after b front) Call.Close .book)
 
 -- "For every list of the sixteen calls (Join to Terminate, any arguments, refused ones and defaults included) from one freshly opened book, this
--- holds after it, in the words of document 01." "The list starts from the book of any accepted opening, of either kind."
+-- holds after it, in the words of document 01."; "Lists and sessions may hold call 17". "The list starts from the book of any accepted opening, of either kind."
 abbrev pub Demand-3 : Type 0
 Demand-3 = (kind t r p : ℕ) → is-accepted (opening kind t r p .answer) ≡ true → (cs : List Call) → Holds (opening kind t r p .book) cs (after (opening kind t r p .book) cs)

@@ -11,9 +11,12 @@ pub mod Pairing
 pub mod Offers
 pub mod Closing
 pub mod Settlement
+pub mod Settle
 pub mod Calls
 pub mod Entries
 pub mod Lists
 pub mod Ages
 pub mod Demand3
+pub mod Agreement
+pub mod Funded
 pub mod laws

@@ -55,10 +55,11 @@ amounts (Call.Retract seller) = no-amounts
 amounts (Call.Take buyer seller) = no-amounts
 amounts (Call.Day p) = no-amounts
 amounts Call.Close = no-amounts
-amounts (Call.Settle j) = no-amounts
+amounts (Call.Pay j) = no-amounts
 amounts (Call.Measure j w q m s f a) = no-amounts
 amounts (Call.Invoice j) = no-amounts
 amounts (Call.Terminate j party) = no-amounts
+amounts (Call.HandOver j) = no-amounts
 
 -- "the amounts of the list's accepted calls 2, of its accepted calls 3 and the units of its accepted calls 4"
 abbrev pub deposits-accepted : Book → List Call → ℕ

@@ -1,5 +1,5 @@
 -- One account, one receipt, one match: the row of an unused cell, a row with one thing changed, and what a row is asked. Assumes nothing.
-use mathlib.Core.Bool.{Bool, true, false, not, _&&_}
+use mathlib.Core.Bool.{Bool, true, false, not, _&&_, _||_}
 use mathlib.Core.List.{List, [], _∷_}
 use Prim.Native.Nat.{ℕ, _+_, _-_}
 use lib.Dec.{ltb, eqb}
@@ -177,6 +177,7 @@ is-paired Stage.Prepaid = false
 is-paired Stage.Held = false
 is-paired Stage.Closed = false
 is-paired Stage.Ended = false
+is-paired Stage.Funded = false
 
 abbrev pub is-prepaid : Stage → Bool
 is-prepaid Stage.Paired = false
@@ -184,6 +185,7 @@ is-prepaid Stage.Prepaid = true
 is-prepaid Stage.Held = false
 is-prepaid Stage.Closed = false
 is-prepaid Stage.Ended = false
+is-prepaid Stage.Funded = false
 
 abbrev pub is-held : Stage → Bool
 is-held Stage.Paired = false
@@ -191,3 +193,16 @@ is-held Stage.Prepaid = false
 is-held Stage.Held = true
 is-held Stage.Closed = false
 is-held Stage.Ended = false
+is-held Stage.Funded = false
+
+abbrev pub is-funded : Stage → Bool
+is-funded Stage.Paired = false
+is-funded Stage.Prepaid = false
+is-funded Stage.Held = false
+is-funded Stage.Closed = false
+is-funded Stage.Ended = false
+is-funded Stage.Funded = true
+
+-- "a frozen receipt may now be for a paired or a funded match"
+abbrev pub has-frozen : Stage → Bool
+has-frozen s = is-paired s || is-funded s

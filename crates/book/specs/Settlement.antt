@@ -1,4 +1,4 @@
--- Calls 13 to 16: Settle, Measure, Invoice, Terminate. Assumes nothing.
+-- Calls 13 to 17: Pay, Measure, Invoice, Terminate, Hand over. Assumes nothing.
 use mathlib.Core.Bool.{Bool, not}
 use mathlib.Core.List.{List}
 use Prim.Native.Nat.{ℕ, _+_, _-_, _*_}
@@ -11,7 +11,7 @@ use Rattle.coal.specs.declared.Weighed.{Weighed}
 use Rattle.coal.specs.Coal.{percent-down, coal-price, coal-weight, amount}
 use Rattle.book.specs.Types.{Stage, Receipt, Match, Book, Outcome, Fault}
 use Rattle.book.specs.Counting.{iter}
-use Rattle.book.specs.Rows.{blank-receipt, heat-missing, heat-value, released, passed, with-held, is-paired, is-prepaid, is-held}
+use Rattle.book.specs.Rows.{blank-receipt, heat-missing, heat-value, released, passed, with-held, is-paired, is-prepaid, is-held, is-funded}
 use Rattle.book.specs.Tables.{account-at, match-at, put-match, with-receipts, with-fund, pay, charge, frozen-receipts}
 use Rattle.book.specs.Answers.{refuse-if, accept}
 
@@ -75,33 +75,32 @@ set-stage b j x s = put-match b j (with-held (match-at b j) x s)
 abbrev pub first-part : ℕ → ℕ
 first-part x = percent-down 80 x
 
--- "Without fault the buyer pays V. Receipts book: seller gets 80% of V, down, the rest is held; the receipts pass to the buyer, free; stage held."
-unfoldable pub settle-receipts : Book → ℕ → Match → ℕ → Book
-settle-receipts b j m v =
-    pass-receipts (set-stage (pay (charge b (m .buyer) v) (m .seller) (first-part v)) j (v - first-part v) Stage.Held) j (m .buyer)
+-- "moves V into money held": the buyer pays V, and V is held, at a stage
+unfoldable pub into-held : Book → ℕ → Match → ℕ → Stage → Book
+into-held b j m v s = set-stage (charge b (m .buyer) v) j v s
 
--- "Board book: V is held; stage prepaid."
-unfoldable pub settle-board : Book → ℕ → Match → ℕ → Book
-settle-board b j m v = set-stage (charge b (m .buyer) v) j v Stage.Prepaid
+-- "In a receipts book it gives the new stage 5, funded." "A board match goes from Pay to prepaid."
+abbrev pub paid-stage : Book → Stage
+paid-stage b = pick (b .board) Stage.Prepaid Stage.Funded
 
--- "Then the match is ended and its receipts are free again."
-unfoldable pub settle-ended : Book → ℕ → Match → Fault → Fault → Book
-settle-ended b j m x y = free-again (set-stage (punish b m x y) j 0 Stage.Ended) j
+-- "ends the match on a fault": "Then the match is ended and its receipts are free again."
+unfoldable pub fault-ended : Book → ℕ → Match → Fault → Fault → Book
+fault-ended b j m x y = free-again (set-stage (punish b m x y) j 0 Stage.Ended) j
 
 -- by the buyer's fault and the seller's
-unfoldable pub settled : Book → ℕ → Match → Fault → Fault → Book
-settled b j m Fault.Faultless Fault.Faultless = pick (b .board) (settle-board b j m (value b m)) (settle-receipts b j m (value b m))
-settled b j m (Fault.Percent x) Fault.Faultless = settle-ended b j m (Fault.Percent x) Fault.Faultless
-settled b j m Fault.Faultless (Fault.Percent y) = settle-ended b j m Fault.Faultless (Fault.Percent y)
-settled b j m (Fault.Percent x) (Fault.Percent y) = settle-ended b j m (Fault.Percent x) (Fault.Percent y)
+unfoldable pub paid : Book → ℕ → Match → Fault → Fault → Book
+paid b j m Fault.Faultless Fault.Faultless = into-held b j m (value b m) (paid-stage b)
+paid b j m (Fault.Percent x) Fault.Faultless = fault-ended b j m (Fault.Percent x) Fault.Faultless
+paid b j m Fault.Faultless (Fault.Percent y) = fault-ended b j m Fault.Faultless (Fault.Percent y)
+paid b j m (Fault.Percent x) (Fault.Percent y) = fault-ended b j m (Fault.Percent x) (Fault.Percent y)
 
--- "13 Settle match." "Settle (paired)."
-unfoldable pub settle : Book → ℕ → Outcome
-settle b j =
+-- "Pay (call 13) judges faults as Settle did, ends the match on a fault, and otherwise moves V into money held."
+unfoldable pub pay-match : Book → ℕ → Outcome
+pay-match b j =
     refuse-if (leb (b .«match_count») j) 21 b
     (refuse-if (not (is-paired (match-at b j .stage))) 22 b
     (refuse-if (ltb (b .day) (match-at b j .due)) 23 b
-    (accept 0 (settled b j (match-at b j) (buyer-fault b j) (seller-fault b j)))))
+    (accept 0 (paid b j (match-at b j) (buyer-fault b j) (seller-fault b j)))))
 
 -- what the weight rule gives for the cargo of a match: "D = units × T × 1,000 kg", W and M as measured
 abbrev pub cargo : Book → Match → (w m : ℕ) → Weighed
@@ -155,3 +154,14 @@ terminate b j party =
     (refuse-if (leb (b .«match_count») j) 21 b
     (refuse-if (not (is-prepaid (match-at b j .stage))) 22 b
     (accept 0 (terminated b j (match-at b j) party)))))
+
+-- "passes the receipts and pays the seller's 80%": "seller gets 80% of V, down, the rest is held; the receipts pass to the buyer, free; stage held."
+unfoldable pub handed : Book → ℕ → Match → ℕ → Book
+handed b j m v = pass-receipts (set-stage (pay b (m .seller) (first-part v)) j (v - first-part v) Stage.Held) j (m .buyer)
+
+-- "Hand over (call 17) takes a funded match"
+unfoldable pub hand-over : Book → ℕ → Outcome
+hand-over b j =
+    refuse-if (leb (b .«match_count») j) 21 b
+    (refuse-if (not (is-funded (match-at b j .stage))) 22 b
+    (accept 0 (handed b j (match-at b j) (value b (match-at b j)))))

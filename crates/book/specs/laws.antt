@@ -25,3 +25,5 @@ pub mod Money
 pub mod Given
 pub mod FirstPass
 pub mod Demand
+pub mod Agreeing
+pub mod Funding

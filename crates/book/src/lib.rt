@@ -28,13 +28,14 @@ pub enum ReceiptState {
     Struck,
 }
 
-// "a stage: 0 paired, 1 prepaid, 2 held, 3 closed, 4 ended"
+// "a stage: 0 paired, 1 prepaid, 2 held, 3 closed, 4 ended"; "the new stage 5, funded"
 pub enum Stage {
     Paired,
     Prepaid,
     Held,
     Closed,
     Ended,
+    Funded,
 }
 
 // A lot of a position: an opening day with its units.
@@ -112,7 +113,7 @@ pub struct Outcome {
     pub book: Book,
 }
 
-// The sixteen calls, in the order of their numbers.
+// The seventeen calls, in the order of their numbers.
 pub enum Call {
     Join {
         residence: u64,
@@ -158,7 +159,7 @@ pub enum Call {
         price: u64,
     },
     Close,
-    Settle {
+    Pay {
         number: u64,
     },
     Measure {
@@ -177,6 +178,9 @@ pub enum Call {
         number: u64,
         party: u64,
     },
+    HandOver {
+        number: u64,
+    },
 }
 
 // One of a list of buyers or sellers in Close: an account's number, the units left to it, and where it is a lot its day, else 0.
@@ -192,7 +196,7 @@ pub enum Found {
     Nothing,
 }
 
-// A party's fault at settlement: none, or the percent of V that it costs.
+// A party's fault at Pay: none, or the percent of V that it costs.
 pub enum Fault {
     Faultless,
     Percent(u64),

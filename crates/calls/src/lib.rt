@@ -28,7 +28,7 @@ pub fn apply(book: Book, call: Call) -> Outcome
         Call::Take { buyer, seller } => pairing::take_offer(book, buyer, seller),
         Call::Day { price } => accounts::next_day(book, price),
         Call::Close => closing::close(book),
-        Call::Settle { number } => settlement::settle(book, number),
+        Call::Pay { number } => settlement::pay_match(book, number),
         Call::Measure {
             number,
             w,
@@ -40,5 +40,6 @@ pub fn apply(book: Book, call: Call) -> Outcome
         } => settlement::measure(book, number, w, q, m, s, f, a),
         Call::Invoice { number } => settlement::invoice(book, number),
         Call::Terminate { number, party } => settlement::terminate(book, number, party),
+        Call::HandOver { number } => settlement::hand_over(book, number),
     }
 }

@@ -1,10 +1,10 @@
--- Settle in a board book with every pair of faults; Terminate by each party, and with a party that is none. Assumes nothing.
+-- Pay in a board book with every pair of faults; Hand over, which finds no funded match there; Terminate by each party, and with a party that is none. Assumes nothing.
 use mathlib.Core.Path.{_≡_, refl}
 use mathlib.Core.List.{List, [], _∷_, _++_}
 use lib.IntN.{pos}
 use Rattle.book.specs.declared.Call.{Call}
 use Rattle.computed.specs.Script.{Line, line, ok, no, play, account, matched, ledger-after, sums-after}
-use Rattle.computed.specs.Faults.{joined, settled, punished, ended, owed}
+use Rattle.computed.specs.Faults.{joined, paid, punished, ended, owed}
 
 abbrev script : List Line
 script =
@@ -18,8 +18,11 @@ script =
     ∷ line (Call.Trade 12 13 7) (ok 0) ∷ line (Call.Declare 13 5_000) (ok 0)
     ∷ line (Call.Trade 14 15 8) (ok 0) ∷ line (Call.Declare 15 5_000) (ok 0)
     ∷ line (Call.Trade 16 17 9) (ok 0)
-    ∷ settled
-    ++ line (Call.Terminate 0 3) (no 8)
+    ∷ paid
+    ++ line (Call.HandOver 0) (no 22)
+    ∷ line (Call.HandOver 1) (no 22)
+    ∷ line (Call.HandOver 9) (no 21)
+    ∷ line (Call.Terminate 0 3) (no 8)
     ∷ line (Call.Terminate 9 0) (no 21)
     ∷ line (Call.Terminate 0 0) (ok 0)
     ∷ line (Call.Terminate 0 0) (no 22)

@@ -1,4 +1,4 @@
--- Settle in a receipts book with every pair of faults: no fault, unfit, default, of the buyer and of the seller. Assumes nothing.
+-- Pay in a receipts book with every pair of faults: no fault, unfit, default, of the buyer and of the seller. Assumes nothing.
 use mathlib.Core.Path.{_≡_, refl}
 use mathlib.Core.List.{List, [], _∷_, _++_}
 use Prim.Native.Nat.{ℕ}
@@ -22,9 +22,9 @@ joined =
     ∷ line (Call.Join 0 1) (ok 16) ∷ line (Call.Join 0 1) (ok 17)
     ∷ []
 
--- their nine matches, settled on the next day
-abbrev pub settled : List Line
-settled = line Call.Close (ok 9) ∷ line (Call.Settle 0) (no 23) ∷ line (Call.Day 900) (ok 1) ∷ each 9 0 (λ j. line (Call.Settle j) (ok 0))
+-- their nine matches, paid or ended on the next day
+abbrev pub paid : List Line
+paid = line Call.Close (ok 9) ∷ line (Call.Pay 0) (no 23) ∷ line (Call.Day 900) (ok 1) ∷ each 9 0 (λ j. line (Call.Pay j) (ok 0))
 
 -- the accounts of the eight matches with a fault, those matches and the fund
 abbrev pub punished : List Row
@@ -76,7 +76,9 @@ script =
     ∷ line (Call.Trade 12 13 7) (ok 0) ∷ lodged 7 12 13
     ++ line (Call.Trade 14 15 8) (ok 0) ∷ lodged 8 19 15
     ++ line (Call.Trade 16 17 9) (ok 0)
-    ∷ settled
+    ∷ paid
+    ++ line (Call.HandOver 0) (ok 0) ∷ line (Call.HandOver 1) (no 22)
+    ∷ []
 
 answers : play 0 7 33 1_000 script ≡ script
 unfolding play

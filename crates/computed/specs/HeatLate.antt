@@ -17,8 +17,8 @@ script =
     ∷ line (Call.Declare 0 5_500) (ok 0)
     ∷ line (Call.Deposit 1 240) (ok 0)
     ∷ line (Call.Day 80) (ok 1)
-    ∷ line (Call.Settle 0) (ok 0)
-    ∷ line (Call.Settle 1) (ok 0)
+    ∷ line (Call.Pay 0) (ok 0)
+    ∷ line (Call.Pay 1) (ok 0)
     ∷ line (Call.Terminate 0 2) (no 22)
     ∷ line (Call.Terminate 1 2) (ok 0)
     ∷ []

@@ -8,6 +8,7 @@ pub mod OldestFirst
 pub mod Lots
 pub mod Places
 pub mod EnoughBonded
+pub mod Funded
 pub mod Faults
 pub mod BoardFaults
 pub mod Terminate

@@ -17,7 +17,7 @@ use Rattle.book.specs.Offers as offers
 use Rattle.book.specs.Closing as closing
 use Rattle.book.specs.Settlement as settlement
 use Rattle.book.specs.Calls.{step}
-use Rattle.book.specs.Entries.{penalty-entries, settle-entries, measure-entries, terminate-entries, entries}
+use Rattle.book.specs.Entries.{penalty-entries, pay-entries, measure-entries, terminate-entries, hand-over-entries, entries}
 use Rattle.book.specs.Lists.{after, sum-accepted, amounts, deposits-accepted, withdrawals-accepted, units-traded, entry-sum, account-entries}
 use Rattle.book.specs.Demand3.{gave, gave-out, overseas-units-open, bonded-units-offered, total-cash, total-held, units-in-matches, units-long, units-short}
 
@@ -102,7 +102,7 @@ unfolding
     closing.walk closing.join-pair closing.joined closing.pair-all closing.insert-by-day closing.insert-lots closing.lots-in-order closing.overseas-lots closing.bonded-sellers closing.buyers closing.sellers closing.first-pass
     closing.equal-seller closing.second-turn closing.second-pass closing.third-pass closing.all-passes closing.lapse-turn closing.lapse-offers closing.close
     settlement.value settlement.seller-fault settlement.buyer-fault settlement.penalty settlement.punish settlement.release-turn settlement.free-again
-    settlement.pass-turn settlement.pass-receipts settlement.settle-receipts settlement.settle-board settlement.settle-ended settlement.settled settlement.settle
+    settlement.pass-turn settlement.pass-receipts settlement.into-held settlement.fault-ended settlement.paid settlement.pay-match settlement.handed settlement.hand-over
     settlement.amount-due settlement.measured settlement.measure settlement.invoice settlement.terminated settlement.terminate step book-of
 play kind t r p ls = answered (book-of kind t r p) (calls ls)
 
@@ -131,7 +131,7 @@ pub record Sums : Type 0 where
   pub entered : List ℤ
 
 unfoldable pub sums-after : ℕ → ℕ → ℕ → ℕ → List Line → Sums
-unfolding play after sum-accepted amounts penalty-entries settle-entries measure-entries terminate-entries entries entry-sum account-entries total-cash total-held units-in-matches units-long units-short
+unfolding play after sum-accepted amounts penalty-entries pay-entries measure-entries terminate-entries hand-over-entries entries entry-sum account-entries total-cash total-held units-in-matches units-long units-short
 sums-after kind t r p ls =
     let b = book-of kind t r p in
     let cs = calls ls in

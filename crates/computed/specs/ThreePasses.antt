@@ -3,7 +3,7 @@ use mathlib.Core.Path.{_≡_, refl}
 use mathlib.Core.List.{List, [], _∷_, _++_}
 use lib.IntN.{pos}
 use Rattle.book.specs.declared.Call.{Call}
-use Rattle.computed.specs.Script.{Line, line, ok, play, owes, account, receipt, matched, fund, ledger-after, sums-after, given-by-close}
+use Rattle.computed.specs.Script.{Line, line, ok, no, play, owes, account, receipt, matched, fund, ledger-after, sums-after, given-by-close}
 
 -- what comes before Close
 abbrev front : List Line
@@ -34,10 +34,15 @@ script =
     front
     ++ line Call.Close (ok 6)
     ∷ line (Call.Day 5) (ok 2)
-    ∷ line (Call.Settle 0) (ok 0)
-    ∷ line (Call.Settle 1) (ok 0)
-    ∷ line (Call.Settle 2) (ok 0)
-    ∷ line (Call.Settle 3) (ok 0)
+    ∷ line (Call.Pay 0) (ok 0)
+    ∷ line (Call.Pay 1) (ok 0)
+    ∷ line (Call.Pay 2) (ok 0)
+    ∷ line (Call.Pay 3) (ok 0)
+    ∷ line (Call.HandOver 0) (ok 0)
+    ∷ line (Call.HandOver 1) (ok 0)
+    ∷ line (Call.HandOver 2) (ok 0)
+    ∷ line (Call.HandOver 3) (no 22)
+    ∷ line (Call.HandOver 6) (no 21)
     ∷ line (Call.Invoice 0) (ok 0)
     ∷ line (Call.Withdraw 0 5) (ok 0)
     ∷ []

@@ -1,4 +1,4 @@
--- Document 01's worked session: its answers and its ledger. Assumes nothing.
+-- The worked session of document 01, with document 02's Hand over as its last line: its answers and its ledger. Assumes nothing.
 use mathlib.Core.Path.{_≡_, refl}
 use mathlib.Core.List.{List, [], _∷_, _++_}
 use lib.IntN.{pos}
@@ -21,7 +21,8 @@ script =
     front
     ++ line Call.Close (ok 2)
     ∷ line (Call.Day 610_000) (ok 1)
-    ∷ line (Call.Settle 0) (ok 0)
+    ∷ line (Call.Pay 0) (ok 0)
+    ∷ line (Call.HandOver 0) (ok 0)
     ∷ []
 
 answers : play 0 5 20 600_000 script ≡ script

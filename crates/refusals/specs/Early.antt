@@ -1,4 +1,4 @@
--- Refusals of eight calls by the book's numbers and the rows that the call names. Assumes nothing.
+-- Refusals of nine calls by the book's numbers and the rows that the call names. Assumes nothing.
 use mathlib.Core.Path.{_≡_}
 use Prim.Native.Nat.{ℕ}
 use Rattle.book.specs.declared.Call.{Call}
@@ -28,10 +28,11 @@ rows-named (Call.Retract a) = of-match 0
 rows-named (Call.Take a b) = of-parties a b
 rows-named (Call.Day a) = of-match 0
 rows-named Call.Close = of-match 0
-rows-named (Call.Settle a) = of-match a
+rows-named (Call.Pay a) = of-match a
 rows-named (Call.Measure a b c d e f g) = of-match a
 rows-named (Call.Invoice a) = of-match a
 rows-named (Call.Terminate a b) = of-match a
+rows-named (Call.HandOver a) = of-match a
 
 -- the number with which Trade, Offer, Take, Close or a call of settlement is refused; 0 where it is accepted, and for every other call
 unfoldable pub early : Book → Call → ℕ
@@ -47,10 +48,11 @@ early x (Call.Retract a) = 0
 early x (Call.Take a b) = refusal-of (step x (Call.Take a b) .answer)
 early x (Call.Day a) = 0
 early x Call.Close = refusal-of (step x Call.Close .answer)
-early x (Call.Settle a) = refusal-of (step x (Call.Settle a) .answer)
+early x (Call.Pay a) = refusal-of (step x (Call.Pay a) .answer)
 early x (Call.Measure a b c d e f g) = refusal-of (step x (Call.Measure a b c d e f g) .answer)
 early x (Call.Invoice a) = refusal-of (step x (Call.Invoice a) .answer)
 early x (Call.Terminate a b) = refusal-of (step x (Call.Terminate a b) .answer)
+early x (Call.HandOver a) = refusal-of (step x (Call.HandOver a) .answer)
 
 -- "A refusal is one number; the book is unchanged.": a call that is refused so
 pub early-is : (x : Book) (c : Call) {n : ℕ} → n ≡ early x c → (n ≡ 0 → ⊥) → refuse n x ≡ step x c
@@ -67,7 +69,8 @@ early-is x (Call.Retract a) q h = absurd (h q)
 early-is x (Call.Take a b) q h = refused-is x (Call.Take a b) q h
 early-is x (Call.Day a) q h = absurd (h q)
 early-is x Call.Close q h = refused-is x Call.Close q h
-early-is x (Call.Settle a) q h = refused-is x (Call.Settle a) q h
+early-is x (Call.Pay a) q h = refused-is x (Call.Pay a) q h
 early-is x (Call.Measure a b c d e f g) q h = refused-is x (Call.Measure a b c d e f g) q h
 early-is x (Call.Invoice a) q h = refused-is x (Call.Invoice a) q h
 early-is x (Call.Terminate a b) q h = refused-is x (Call.Terminate a b) q h
+early-is x (Call.HandOver a) q h = refused-is x (Call.HandOver a) q h

@@ -1,4 +1,4 @@
-// Refusals of eight calls by the book's numbers and the rows that the call names, so that no table is copied for them.
+// Refusals of nine calls by the book's numbers and the rows that the call names, so that no table is copied for them.
 ghost use mathlib.Core.Path.{_≡_};
 ghost use Rattle.book.specs.Tables.{account-at, match-at};
 ghost use Rattle.book.specs.Lists.{Reached};
@@ -56,10 +56,11 @@ pub fn rows_named(call: Call) -> Named
         Call::Take { buyer, seller } => of_parties(buyer, seller),
         Call::Day { .. } => none,
         Call::Close => none,
-        Call::Settle { number } => of_match(number),
+        Call::Pay { number } => of_match(number),
         Call::Measure { number, .. } => of_match(number),
         Call::Invoice { number } => of_match(number),
         Call::Terminate { number, .. } => of_match(number),
+        Call::HandOver { number } => of_match(number),
     }
 }
 
@@ -88,7 +89,7 @@ pub fn early(book: Book, call: Call, pair: Match, bought: Account, sold: Account
         Call::Take { buyer, seller } => pairing::take_refusal(book, bought, sold, buyer, seller),
         Call::Day { .. } => 0,
         Call::Close => closing::close_refusal(book),
-        Call::Settle { number } => settlement::settle_refusal(book, pair, number),
+        Call::Pay { number } => settlement::pay_refusal(book, pair, number),
         Call::Measure {
             number,
             w,
@@ -105,5 +106,6 @@ pub fn early(book: Book, call: Call, pair: Match, bought: Account, sold: Account
             number,
             party,
         ),
+        Call::HandOver { number } => settlement::hand_over_refusal(book, pair, number),
     }
 }

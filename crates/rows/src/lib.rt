@@ -9,7 +9,7 @@ ghost use Rattle.book.specs.declared.Offer.{Offer};
 ghost use Rattle.book.specs.declared.ReceiptState.{ReceiptState};
 ghost use Rattle.book.specs.declared.Stage.{Stage};
 ghost use Rattle.book.specs.Counting.{one-if};
-ghost use Rattle.book.specs.Rows.{needs-fifth, lots-on, lot-off, lots-off, with-position, with-heat, with-offer, credited, debited, units-on, units-off, is-long, is-short, long-units, short-units, heat-missing, heat-value, offer-missing, offer-units, with-state, is-free, is-frozen, is-struck, is-frozen-for, is-free-of, frozen-for, released, passed, with-held, is-paired, is-prepaid, is-held};
+ghost use Rattle.book.specs.Rows.{needs-fifth, lots-on, lot-off, lots-off, with-position, with-heat, with-offer, credited, debited, units-on, units-off, is-long, is-short, long-units, short-units, heat-missing, heat-value, offer-missing, offer-units, with-state, is-free, is-frozen, is-struck, is-frozen-for, is-free-of, frozen-for, released, passed, with-held, is-paired, is-prepaid, is-held, is-funded};
 ghost use Rattle.book.specs.Accounts.{new-account};
 ghost use Rattle.book.specs.Receipts.{new-receipt};
 ghost use Rattle.rows.specs.Places.{place};
@@ -554,6 +554,7 @@ pub fn is_paired(m: Match) -> bool
         Stage::Held => false,
         Stage::Closed => false,
         Stage::Ended => false,
+        Stage::Funded => false,
     }
 }
 
@@ -568,6 +569,7 @@ pub fn is_prepaid(m: Match) -> bool
         Stage::Held => false,
         Stage::Closed => false,
         Stage::Ended => false,
+        Stage::Funded => false,
     }
 }
 
@@ -582,6 +584,22 @@ pub fn is_held(m: Match) -> bool
         Stage::Held => true,
         Stage::Closed => false,
         Stage::Ended => false,
+        Stage::Funded => false,
+    }
+}
+
+// Whether a match is funded.
+pub fn is_funded(m: Match) -> bool
+    ensures { λ r. ⌜ r ≡ is-funded (m .stage) ⌝ }
+{
+    let stage = m.stage;
+    match stage {
+        Stage::Paired => false,
+        Stage::Prepaid => false,
+        Stage::Held => false,
+        Stage::Closed => false,
+        Stage::Ended => false,
+        Stage::Funded => true,
     }
 }
 

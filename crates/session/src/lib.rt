@@ -136,8 +136,8 @@ fn run(book: Book, s: &[u8], from: usize, out: &mut [u8], at: usize, wanted: boo
                 book = o.book;
                 answer = o.answer;
             }
-            Call::Settle { number } => {
-                let o = settlement::settle(book, number);
+            Call::Pay { number } => {
+                let o = settlement::pay_match(book, number);
                 book = o.book;
                 answer = o.answer;
             }
@@ -161,6 +161,11 @@ fn run(book: Book, s: &[u8], from: usize, out: &mut [u8], at: usize, wanted: boo
             }
             Call::Terminate { number, party } => {
                 let o = settlement::terminate(book, number, party);
+                book = o.book;
+                answer = o.answer;
+            }
+            Call::HandOver { number } => {
+                let o = settlement::hand_over(book, number);
                 book = o.book;
                 answer = o.answer;
             }

@@ -23,7 +23,7 @@ use Rattle.book.specs.Answers.{refuse-if}
 use Rattle.book.specs.Counting.{iter}
 use Rattle.book.specs.Rows.{blank-account, heat-value}
 use Rattle.book.specs.Tables.{account-at, match-at, put-account, with-receipts, with-fund, pay, charge}
-use Rattle.book.specs.Settlement.{value, punish, release-turn, free-again, set-stage, settle-ended, settled}
+use Rattle.book.specs.Settlement.{value, punish, release-turn, free-again, set-stage, fault-ended, paid}
 use Rattle.book.specs.Lists.{Reached}
 use Rattle.book.specs.laws.Counting.{at-set}
 use Rattle.book.specs.laws.Sound.{Sound}
@@ -177,21 +177,21 @@ module _ (b : Book) (r : Reached b) where
         heat-most Heat.Missing g = omega arith
         heat-most (Heat.Declared x) g = g x refl
 
--- ---- Settle and Measure
+-- ---- Pay and Measure
 
 -- ending a match first in its receipts or first in its money comes to the same
-pub ended : (b : Book) (j : ℕ) (m : Match) (x y : Fault) → set-stage (with-receipts (punish b m x y) (iter (b .«receipt_count») 0 (release-turn j) (b .receipts)) (punish b m x y .«receipt_count»)) j 0 Stage.Ended ≡ settle-ended b j m x y
-unfolding settle-ended free-again punish pay charge
+pub ended : (b : Book) (j : ℕ) (m : Match) (x y : Fault) → set-stage (with-receipts (punish b m x y) (iter (b .«receipt_count») 0 (release-turn j) (b .receipts)) (punish b m x y .«receipt_count»)) j 0 Stage.Ended ≡ fault-ended b j m x y
+unfolding fault-ended free-again punish pay charge
 ended b j m Fault.Faultless Fault.Faultless = refl
 ended b j m (Fault.Percent p) Fault.Faultless = refl
 ended b j m Fault.Faultless (Fault.Percent q) = refl
 ended b j m (Fault.Percent p) (Fault.Percent q) = refl
 
 -- a buyer at fault ends the match, whatever the seller's fault
-pub settled-fault : (b : Book) (j : ℕ) (m : Match) (p : ℕ) (y : Fault) → settle-ended b j m (Fault.Percent p) y ≡ settled b j m (Fault.Percent p) y
-unfolding settled
-settled-fault b j m p Fault.Faultless = refl
-settled-fault b j m p (Fault.Percent q) = refl
+pub paid-fault : (b : Book) (j : ℕ) (m : Match) (p : ℕ) (y : Fault) → fault-ended b j m (Fault.Percent p) y ≡ paid b j m (Fault.Percent p) y
+unfolding paid
+paid-fault b j m p Fault.Faultless = refl
+paid-fault b j m p (Fault.Percent q) = refl
 
 -- six tests with one refusal
 pub any-of-six : (s t u v x y : Bool) (n : ℕ) (b : Book) (r z : Outcome) → z ≡ refuse-if (s || t || u || v || x || y) n b r → z ≡ refuse-if s n b (refuse-if t n b (refuse-if u n b (refuse-if v n b (refuse-if x n b (refuse-if y n b r)))))

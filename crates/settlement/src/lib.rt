@@ -1,4 +1,4 @@
-// Calls 13 to 16: Settle, Measure, Invoice, Terminate.
+// Calls 13 to 17: Pay, Measure, Invoice, Terminate, Hand over.
 ghost use mathlib.Core.Path.{_≡_};
 ghost use mathlib.Core.Bool.{not, _||_};
 ghost use Prim.Native.Nat.{_≤_, _<_, _*_};
@@ -7,11 +7,12 @@ ghost use Rattle.coal.specs.Choice.{pick};
 ghost use Rattle.coal.specs.Coal.{coal-price, coal-weight, amount};
 ghost use Rattle.coal.specs.Ranges.{most-weight};
 ghost use Rattle.book.specs.declared.Fault.{Fault};
+ghost use Rattle.book.specs.declared.Stage.{Stage};
 ghost use Rattle.book.specs.Counting.{iter, tally};
 ghost use Rattle.book.specs.Rows.{heat-missing, heat-value};
 ghost use Rattle.book.specs.Answers.{refusal-of};
 ghost use Rattle.book.specs.Tables.{match-at, pay, charge, frozen-at};
-ghost use Rattle.book.specs.Settlement.{punish, release-turn, pass-turn, set-stage, buyer-fault, seller-fault, settle-receipts, settle-board, settle-ended, settled, settle, measured, measure, invoice, terminated, terminate};
+ghost use Rattle.book.specs.Settlement.{punish, release-turn, pass-turn, set-stage, buyer-fault, seller-fault, into-held, fault-ended, paid, pay-match, measured, measure, invoice, terminated, terminate, handed, hand-over};
 ghost use Rattle.book.specs.Lists.{Reached};
 ghost use Rattle.rows.specs.Places.{place};
 ghost use Rattle.settlement.specs.Money.{most-paid, percent-of, Room, fined, Deal, Due};
@@ -193,38 +194,33 @@ fn seller_lacks(m: Match, board: bool, frozen: u64) -> bool
     frozen < m.units as u64
 }
 
-// ---- Settle
+// ---- Pay
 
-// "Board book: V is held; stage prepaid."
-fn settle_board(book: Book, number: u64, m: Match, v: u64) -> Book
+// "moves V into money held": the buyer pays V, and V is held, at a stage.
+fn into_held(book: Book, number: u64, m: Match, v: u64, stage: Stage) -> Book
     requires { ⌜ Due book number m v ⌝ }
-    ensures { λ r. ⌜ r ≡ settle-board book number m v ⌝ }
+    ensures { λ r. ⌜ r ≡ into-held book number m v stage ⌝ }
 {
     let paid = charge(book, m.buyer, v);
-    set_stage(paid, number, v, Stage::Prepaid)
+    set_stage(paid, number, v, stage)
 }
 
-// "Receipts book: seller gets 80% of V, down, the rest is held; the receipts pass to the buyer, free; stage held."
-fn settle_receipts(book: Book, number: u64, m: Match, v: u64) -> Book
-    requires { ⌜ Due book number m v ⌝ }
-    ensures { λ r. ⌜ r ≡ settle-receipts book number m v ⌝ }
+// "In a receipts book it gives the new stage 5, funded." "A board match goes from Pay to prepaid."
+fn paid_stage(board: bool) -> Stage
+    ensures { λ r. ⌜ r ≡ pick board Stage.Prepaid Stage.Funded ⌝ }
 {
-    let first = percent_down(80, v);
-    let rest = v - first;
-    let receipts = book.receipts;
-    let passed = pass_receipts(receipts, book.receipt_count, number, m.buyer as u64);
-    let paid = charge(book, m.buyer, v);
-    let mut next = pay(paid, m.seller, first);
-    next.receipts = passed;
-    set_stage(next, number, rest, Stage::Held)
+    if board {
+        return Stage::Prepaid;
+    }
+    Stage::Funded
 }
 
-// "Then the match is ended and its receipts are free again."
-fn settle_ended(book: Book, number: u64, m: Match, v: u64, x: Fault, y: Fault) -> Book
+// "ends the match on a fault": "Then the match is ended and its receipts are free again."
+fn fault_ended(book: Book, number: u64, m: Match, v: u64, x: Fault, y: Fault) -> Book
     requires { ⌜ Due book number m v ⌝ }
     requires { ⌜ percent-of x ≤ 100 ⌝ }
     requires { ⌜ percent-of y ≤ 100 ⌝ }
-    ensures { λ r. ⌜ r ≡ settle-ended book number m x y ⌝ }
+    ensures { λ r. ⌜ r ≡ fault-ended book number m x y ⌝ }
 {
     let receipts = book.receipts;
     let freed = free_again(receipts, book.receipt_count, number);
@@ -233,22 +229,17 @@ fn settle_ended(book: Book, number: u64, m: Match, v: u64, x: Fault, y: Fault) -
     set_stage(next, number, 0, Stage::Ended)
 }
 
-// "Without fault the buyer pays V", else the match is ended: x is the buyer's fault, y the seller's.
-fn settled(book: Book, number: u64, m: Match, v: u64, x: Fault, y: Fault) -> Book
+// By the buyer's fault, x, and the seller's, y.
+fn paid(book: Book, number: u64, m: Match, v: u64, x: Fault, y: Fault) -> Book
     requires { ⌜ Due book number m v ⌝ }
     requires { ⌜ percent-of x ≤ 100 ⌝ }
     requires { ⌜ percent-of y ≤ 100 ⌝ }
-    ensures { λ r. ⌜ r ≡ settled book number m x y ⌝ }
+    ensures { λ r. ⌜ r ≡ paid book number m x y ⌝ }
 {
     match x {
         Fault::Faultless => match y {
-            Fault::Faultless => {
-                if book.board {
-                    return settle_board(book, number, m, v);
-                }
-                settle_receipts(book, number, m, v)
-            }
-            Fault::Percent(q) => settle_ended(
+            Fault::Faultless => into_held(book, number, m, v, paid_stage(book.board)),
+            Fault::Percent(q) => fault_ended(
                 book,
                 number,
                 m,
@@ -257,15 +248,15 @@ fn settled(book: Book, number: u64, m: Match, v: u64, x: Fault, y: Fault) -> Boo
                 Fault::Percent(q),
             ),
         },
-        Fault::Percent(p) => settle_ended(book, number, m, v, Fault::Percent(p), y),
+        Fault::Percent(p) => fault_ended(book, number, m, v, Fault::Percent(p), y),
     }
 }
 
-// "Buyer's fault: unfit (10%), else cash below V (R%)", the seller's by its receipts or heat, and the match settled.
-fn settle_due(book: Book, number: u64) -> Book
+// "Buyer's fault: unfit (10%), else cash below V (R%)", the seller's by its receipts or heat, and the match paid or ended.
+fn pay_due(book: Book, number: u64) -> Book
     requires { ⌜ Reached book ⌝ }
     requires { ⌜ number < book .«match_count» ⌝ }
-    ensures { λ r. ⌜ r ≡ settled book number (match-at book number) (buyer-fault book number) (seller-fault book number) ⌝ }
+    ensures { λ r. ⌜ r ≡ paid book number (match-at book number) (buyer-fault book number) (seller-fault book number) ⌝ }
 {
     let j = number as usize;
     let m = book.matches[j];
@@ -278,14 +269,14 @@ fn settle_due(book: Book, number: u64) -> Book
     let frozen = frozen_receipts(receipts, book.receipt_count, number);
     let x = fault(buyer.fit, rows::cash_below(buyer, v), book.rate);
     let y = fault(seller.fit, seller_lacks(m, book.board, frozen), book.rate);
-    settled(book, number, m, v, x, y)
+    paid(book, number, m, v, x, y)
 }
 
-// The number with which Settle is refused, by the row at the match's place; 0 where it is accepted.
-pub fn settle_refusal(book: Book, m: Match, number: u64) -> u64
+// The number with which Pay is refused, by the row at the match's place; 0 where it is accepted.
+pub fn pay_refusal(book: Book, m: Match, number: u64) -> u64
     requires { ⌜ Reached book ⌝ }
     requires { ⌜ m ≡ match-at book (place 256 number) ⌝ }
-    ensures { λ r. ⌜ r ≡ refusal-of (settle book number .answer) ⌝ }
+    ensures { λ r. ⌜ r ≡ refusal-of (pay-match book number .answer) ⌝ }
 {
     if book.match_count as u64 <= number {
         return 21;
@@ -299,21 +290,21 @@ pub fn settle_refusal(book: Book, m: Match, number: u64) -> u64
     0
 }
 
-// "13 Settle match." "Settle (paired)."
-pub fn settle(book: Book, number: u64) -> Outcome
+// "Pay (call 13) judges faults as Settle did, ends the match on a fault, and otherwise moves V into money held."
+pub fn pay_match(book: Book, number: u64) -> Outcome
     requires { ⌜ Reached book ⌝ }
-    ensures { λ r. ⌜ r ≡ settle book number ⌝ }
+    ensures { λ r. ⌜ r ≡ pay-match book number ⌝ }
 {
     let j = rows::match_place(number);
     let m = book.matches[j];
-    let refused = settle_refusal(book, m, number);
+    let refused = pay_refusal(book, m, number);
     if refused != 0 {
         return Outcome {
             answer: Answer::Refused(refused),
             book,
         };
     }
-    let next = settle_due(book, number);
+    let next = pay_due(book, number);
     Outcome {
         answer: Answer::Accepted(0),
         book: next,
@@ -511,6 +502,59 @@ pub fn terminate(book: Book, number: u64, party: u64) -> Outcome
     }
     let v = value(m, book.tonnes);
     let next = terminated(book, number, m, v, party);
+    Outcome {
+        answer: Answer::Accepted(0),
+        book: next,
+    }
+}
+
+// ---- Hand over
+
+// "passes the receipts and pays the seller's 80%": "the rest is held; the receipts pass to the buyer, free; stage held."
+fn handed(book: Book, number: u64, m: Match, v: u64) -> Book
+    requires { ⌜ Due book number m v ⌝ }
+    ensures { λ r. ⌜ r ≡ handed book number m v ⌝ }
+{
+    let first = percent_down(80, v);
+    let rest = v - first;
+    let receipts = book.receipts;
+    let passed = pass_receipts(receipts, book.receipt_count, number, m.buyer as u64);
+    let mut given = pay(book, m.seller, first);
+    given.receipts = passed;
+    set_stage(given, number, rest, Stage::Held)
+}
+
+// The number with which Hand over is refused, by the row at the match's place; 0 where it is accepted.
+pub fn hand_over_refusal(book: Book, m: Match, number: u64) -> u64
+    requires { ⌜ Reached book ⌝ }
+    requires { ⌜ m ≡ match-at book (place 256 number) ⌝ }
+    ensures { λ r. ⌜ r ≡ refusal-of (hand-over book number .answer) ⌝ }
+{
+    if book.match_count as u64 <= number {
+        return 21;
+    }
+    if !rows::is_funded(m) {
+        return 22;
+    }
+    0
+}
+
+// "Hand over (call 17) takes a funded match, passes the receipts and pays the seller's 80%."
+pub fn hand_over(book: Book, number: u64) -> Outcome
+    requires { ⌜ Reached book ⌝ }
+    ensures { λ r. ⌜ r ≡ hand-over book number ⌝ }
+{
+    let j = rows::match_place(number);
+    let m = book.matches[j];
+    let refused = hand_over_refusal(book, m, number);
+    if refused != 0 {
+        return Outcome {
+            answer: Answer::Refused(refused),
+            book,
+        };
+    }
+    let v = value(m, book.tonnes);
+    let next = handed(book, number, m, v);
     Outcome {
         answer: Answer::Accepted(0),
         book: next,

@@ -14,13 +14,13 @@ use Rattle.book.specs.declared.Side.{Side}
 use Rattle.book.specs.declared.ReceiptState.{ReceiptState}
 use Rattle.book.specs.declared.Account.{Account}
 use Rattle.book.specs.declared.Receipt.{Receipt}
+use Rattle.book.specs.declared.Stage.{Stage}
 use Rattle.book.specs.declared.Match.{Match}
 use Rattle.book.specs.declared.Book.{Book}
 use Rattle.book.specs.Codes.{stage-number}
 use Rattle.book.specs.Tables.{account-at, receipt-at, match-at}
 use Rattle.book.specs.Lists.{Reached}
 use Rattle.book.specs.laws.Counting.{by-pick}
-use Rattle.book.specs.laws.Bound.{stage-few}
 use Rattle.book.specs.laws.Reaching.{sound}
 use Rattle.text.specs.Text.{bytes}
 use Rattle.text.specs.Print.{digits, last-digits, with-sign, spaced}
@@ -137,6 +137,15 @@ account-40 k a f g h = both (number 3 k (omega arith) (omega arith)) (both (cash
 
 receipt-40 : (i : ℕ) (r : Receipt) → i < 10_000 → r .owner < 10_000 → Characters 40 (receipt-columns i r)
 receipt-40 i r f g = both (number 4 i (omega arith) (omega arith)) (both (number 4 (r .owner) (omega arith) (omega arith)) (both (class (r .bonded)) (state (r .state))))
+
+-- a stage's number has one digit
+pub stage-few : (s : Stage) → stage-number s < 10
+stage-few Stage.Paired = omega arith
+stage-few Stage.Prepaid = omega arith
+stage-few Stage.Held = omega arith
+stage-few Stage.Closed = omega arith
+stage-few Stage.Ended = omega arith
+stage-few Stage.Funded = omega arith
 
 match-40 : (j : ℕ) (m : Match) → j < 1_000 → m .buyer < 1_000 → m .seller < 1_000 → m .units < 100_000 → m .price < 100_000_000 → m .held < 10_000_000_000_000_000 → Characters 40 (match-columns j m)
 match-40 j m f g h k l n =

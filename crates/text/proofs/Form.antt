@@ -24,7 +24,7 @@ reads : (ns : List ℕ) → Reads ns (call-of ns)
 unfolding call-of
 reads [] = tt
 reads (k ∷ []) = either k Call.Close _ tt
-reads (k ∷ x ∷ []) = either k (Call.Retract x) _ (either k (Call.Day x) _ (either k (Call.Settle x) _ (either k (Call.Invoice x) _ tt)))
+reads (k ∷ x ∷ []) = either k (Call.Retract x) _ (either k (Call.Day x) _ (either k (Call.Pay x) _ (either k (Call.Invoice x) _ (either k (Call.HandOver x) _ tt))))
 reads (k ∷ x ∷ y ∷ []) =
     either k (Call.Join x y) _
     (either k (Call.Deposit x y) _
@@ -58,7 +58,8 @@ reads-back (Call.Retract x) = refl
 reads-back (Call.Take x y) = refl
 reads-back (Call.Day x) = refl
 reads-back Call.Close = refl
-reads-back (Call.Settle x) = refl
+reads-back (Call.Pay x) = refl
 reads-back (Call.Measure j w q m s f a) = refl
 reads-back (Call.Invoice x) = refl
 reads-back (Call.Terminate x y) = refl
+reads-back (Call.HandOver x) = refl

@@ -1,4 +1,4 @@
--- Document 01's worked session, computed: its lines read, its ledger and its page printed; and lines not of the form. Assumes nothing.
+-- Document 01's worked session, with Hand over as document 02 ends it, computed: its lines read, its ledger and its page printed; and lines not of the form. Assumes nothing.
 use Prim.Native.Nat.{ℕ}
 use mathlib.Core.Path.{_≡_, refl}
 use mathlib.Core.Bool.{true, false}
@@ -27,14 +27,14 @@ opening-read : opening-line-of (bytes "0 0 5 20 600000\n") ≡ OpeningLine.Open 
 unfolding numbers-on numbers opening-of opening-line-of
 opening-read = refl
 
-session-read : map line-of (lines (bytes "1 0 1\n1 1 1\n2 1 7000000\n4 1 0 2\n5 0 1\n5 0 0\n12\n11 610000\n13 0\n")) ≡
+session-read : map line-of (lines (bytes "1 0 1\n1 1 1\n2 1 7000000\n4 1 0 2\n5 0 1\n5 0 0\n12\n11 610000\n13 0\n17 0\n")) ≡
     Line.Run (Call.Join 0 1) ∷ Line.Run (Call.Join 1 1) ∷ Line.Run (Call.Deposit 1 7_000_000) ∷ Line.Run (Call.Trade 1 0 2) ∷ Line.Run (Call.Lodge 0 1)
-    ∷ Line.Run (Call.Lodge 0 0) ∷ Line.Run Call.Close ∷ Line.Run (Call.Day 610_000) ∷ Line.Run (Call.Settle 0) ∷ []
+    ∷ Line.Run (Call.Lodge 0 0) ∷ Line.Run Call.Close ∷ Line.Run (Call.Day 610_000) ∷ Line.Run (Call.Pay 0) ∷ Line.Run (Call.HandOver 0) ∷ []
 unfolding numbers-on numbers lines call-of line-of
 session-read = refl
 
 -- a blank line, leading zeros, 19 digits, spaces, a sign, one argument too many and too few, no such call, an opening as a later line, no newline
-bad-read : map line-of (lines (bytes "\n012\n9 00\n9 1000000000000000000\n9  0\n9 0 \n 9 0\n9 -1\n12 0\n9\n17 0\n0 0 5 20 600000\n12")) ≡ replicate 13 Line.Bad
+bad-read : map line-of (lines (bytes "\n012\n9 00\n9 1000000000000000000\n9  0\n9 0 \n 9 0\n9 -1\n12 0\n9\n18 0\n0 0 5 20 600000\n12")) ≡ replicate 13 Line.Bad
 unfolding numbers-on numbers lines call-of line-of
 bad-read = refl
 
@@ -83,7 +83,7 @@ unfolding digits last-digits right padded yuan each account-entry receipt-entry 
 page-printed = refl
 
 -- five fen below zero, and the most that `Sound` lets an account come to below it, which fits the field
-cash-printed : map (λ z. account-columns 31 (with-cash (with-position blank-account Side.Short 1_000 no-lots) z)) (negsuc 4 ∷ negsuc 148_383_999_999_999_999 ∷ []) ≡ bytes " 31                 -0.05  short    1000" ∷ bytes " 31  -1483840000000000.00  short    1000" ∷ []
+cash-printed : map (λ z. account-columns 31 (with-cash (with-position blank-account Side.Short 1_000 no-lots) z)) (negsuc 4 ∷ negsuc 136_287_999_999_999_999 ∷ []) ≡ bytes " 31                 -0.05  short    1000" ∷ bytes " 31  -1362880000000000.00  short    1000" ∷ []
 unfolding digits last-digits right yuan
 cash-printed = refl
 

@@ -25,7 +25,7 @@ unfoldable pub line-length : List ℕ → ℕ
 line-length [] = 0
 line-length (b ∷ s) = pick (eqb b 10) 1 (line-length s + 1)
 
--- ---- a line that is a call: "call number 1 to 16, then just its arguments in the order above"
+-- ---- a line that is a call: "call number 1 to 16, then just its arguments in the order above"; "Lists and sessions may hold call 17"
 
 abbrev pub arguments : Call → List ℕ
 arguments (Call.Join residence fitness) = residence ∷ fitness ∷ []
@@ -40,18 +40,20 @@ arguments (Call.Retract seller) = seller ∷ []
 arguments (Call.Take buyer seller) = buyer ∷ seller ∷ []
 arguments (Call.Day p) = p ∷ []
 arguments Call.Close = []
-arguments (Call.Settle j) = j ∷ []
+arguments (Call.Pay j) = j ∷ []
 arguments (Call.Measure j w q m s f a) = j ∷ w ∷ q ∷ m ∷ s ∷ f ∷ a ∷ []
 arguments (Call.Invoice j) = j ∷ []
 arguments (Call.Terminate j party) = j ∷ party ∷ []
+arguments (Call.HandOver j) = j ∷ []
 
 abbrev pub one-argument : ℕ → ℕ → Line
 one-argument k x =
     pick (eqb k 9) (Line.Run (Call.Retract x))
     (pick (eqb k 11) (Line.Run (Call.Day x))
-    (pick (eqb k 13) (Line.Run (Call.Settle x))
+    (pick (eqb k 13) (Line.Run (Call.Pay x))
     (pick (eqb k 15) (Line.Run (Call.Invoice x))
-    Line.Bad)))
+    (pick (eqb k 17) (Line.Run (Call.HandOver x))
+    Line.Bad))))
 
 abbrev pub two-arguments : ℕ → ℕ → ℕ → Line
 two-arguments k x y =

@@ -54,6 +54,7 @@ pub fn stage_number(stage: Stage) -> u64
         Stage::Held => 2,
         Stage::Closed => 3,
         Stage::Ended => 4,
+        Stage::Funded => 5,
     }
 }
 

@@ -50,10 +50,13 @@ fn one_argument(k: u64, x: u64) -> Line
         return Line::Run(Call::Day { price: x });
     }
     if k == 13 {
-        return Line::Run(Call::Settle { number: x });
+        return Line::Run(Call::Pay { number: x });
     }
     if k == 15 {
         return Line::Run(Call::Invoice { number: x });
+    }
+    if k == 17 {
+        return Line::Run(Call::HandOver { number: x });
     }
     Line::Bad
 }

@@ -1,4 +1,4 @@
--- The refusals of all sixteen calls, gone through once: a call is refused and leaves the book, or it is accepted, none of its conditions applies,
+-- The refusals of all seventeen calls, gone through once: a call is refused and leaves the book, or it is accepted, none of its conditions applies,
 -- and it leaves the book that its rule says. A law of single calls goes by cases on this. Assumes nothing.
 use mathlib.Core.Path.{_≡_, refl, sym, ap, _∙_}
 use mathlib.Core.Bool.{Bool, true, false, not, _&&_}
@@ -9,7 +9,7 @@ use lib.Dec.{ltb}
 use lib.IntN.{pos}
 use lib.Signed.{ltZ}
 use Rattle.book.specs.Types.{Heat, Offer, ReceiptState, Stage, Book, Outcome, Call}
-use Rattle.book.specs.Rows.{needs-fifth, with-heat, with-offer, with-state, long-units, short-units, is-long, is-short, offer-missing, offer-units, heat-missing, is-struck, is-frozen, is-paired, is-prepaid, is-held, any-class}
+use Rattle.book.specs.Rows.{needs-fifth, with-heat, with-offer, with-state, long-units, short-units, is-long, is-short, offer-missing, offer-units, heat-missing, is-struck, is-frozen, is-paired, is-prepaid, is-held, is-funded, any-class}
 use Rattle.book.specs.Tables.{account-at, receipt-at, match-at, add-account, add-receipt, put-account, put-receipt, with-deposited, with-day, with-open, pay, charge, free-receipts}
 use Rattle.book.specs.Answers.{refuse, refuse-if, accept, refusal-of}
 use Rattle.book.specs.Opening.{fresh, no-book, opening, next-day}
@@ -18,7 +18,7 @@ use Rattle.book.specs.Receipts.{lodge, strike, new-receipt}
 use Rattle.book.specs.Pairing.{pair}
 use Rattle.book.specs.Offers.{declare, offer, retract, take-offer, end-offer}
 use Rattle.book.specs.Closing.{close, all-passes, lapse-offers}
-use Rattle.book.specs.Settlement.{set-stage, settle, settled, buyer-fault, seller-fault, measure, measured, cargo, amount-due, invoice, terminate, terminated}
+use Rattle.book.specs.Settlement.{value, set-stage, pay-match, paid, buyer-fault, seller-fault, measure, measured, cargo, amount-due, invoice, terminate, terminated, hand-over, handed}
 use Rattle.book.specs.Calls.{step}
 use Rattle.book.specs.laws.Counting.{impossible}
 
@@ -107,7 +107,7 @@ pub record MayDay (b : Book) (p : ℕ) : Type 0 where
 pub record MayClose (b : Book) : Type 0 where
   pub is-open : b .«open» ≡ true
 
-pub record MaySettle (b : Book) (j : ℕ) : Type 0 where
+pub record MayPay (b : Book) (j : ℕ) : Type 0 where
   pub there : j < b .«match_count»
   pub paired : match-at b j .stage ≡ Stage.Paired
   pub due : match-at b j .due ≤ b .day
@@ -133,6 +133,10 @@ pub record MayTerminate (b : Book) (j party : ℕ) : Type 0 where
   pub there : j < b .«match_count»
   pub prepaid : match-at b j .stage ≡ Stage.Prepaid
 
+pub record MayHandOver (b : Book) (j : ℕ) : Type 0 where
+  pub there : j < b .«match_count»
+  pub funded : match-at b j .stage ≡ Stage.Funded
+
 -- ---- the answers
 
 pub data Answered (b : Book) : Call → Outcome → Type 0 where
@@ -149,10 +153,11 @@ pub data Answered (b : Book) : Call → Outcome → Type 0 where
   takes : {buyer seller : ℕ} → MayTake b buyer seller → Answered b (Call.Take buyer seller) (accept (b .«match_count») (end-offer (pair b any-class 2 buyer seller (offer-units (account-at b seller .offer))) seller))
   days : {p : ℕ} → MayDay b p → Answered b (Call.Day p) (accept (b .day + 1) (with-day b p (b .day + 1)))
   closes : MayClose b → Answered b Call.Close (accept (all-passes b .«match_count» - b .«match_count») (with-open (lapse-offers (all-passes b)) false))
-  settles : {j : ℕ} → MaySettle b j → Answered b (Call.Settle j) (accept 0 (settled b j (match-at b j) (buyer-fault b j) (seller-fault b j)))
+  pays : {j : ℕ} → MayPay b j → Answered b (Call.Pay j) (accept 0 (paid b j (match-at b j) (buyer-fault b j) (seller-fault b j)))
   measures : {j w q m s f a : ℕ} → MayMeasure b j w q m s f a → Answered b (Call.Measure j w q m s f a) (accept (cargo b (match-at b j) w m .over) (measured b j (match-at b j) (amount-due b (match-at b j) w q m s f a)))
   invoices : {j : ℕ} → MayInvoice b j → Answered b (Call.Invoice j) (accept 0 (set-stage (pay b (match-at b j .seller) (match-at b j .held)) j 0 Stage.Closed))
   terminates : {j party : ℕ} → MayTerminate b j party → Answered b (Call.Terminate j party) (accept 0 (terminated b j (match-at b j) party))
+  hands-over : {j : ℕ} → MayHandOver b j → Answered b (Call.HandOver j) (accept 0 (handed b j (match-at b j) (value b (match-at b j))))
 
 -- ---- tests
 
@@ -175,6 +180,7 @@ paired-is Stage.Prepaid e = cc
 paired-is Stage.Held e = cc
 paired-is Stage.Closed e = cc
 paired-is Stage.Ended e = cc
+paired-is Stage.Funded e = cc
 
 prepaid-is : (s : Stage) → not (is-prepaid s) ≡ false → s ≡ Stage.Prepaid
 prepaid-is Stage.Paired e = cc
@@ -182,6 +188,7 @@ prepaid-is Stage.Prepaid e = refl
 prepaid-is Stage.Held e = cc
 prepaid-is Stage.Closed e = cc
 prepaid-is Stage.Ended e = cc
+prepaid-is Stage.Funded e = cc
 
 held-is : (s : Stage) → not (is-held s) ≡ false → s ≡ Stage.Held
 held-is Stage.Paired e = cc
@@ -189,6 +196,15 @@ held-is Stage.Prepaid e = cc
 held-is Stage.Held e = refl
 held-is Stage.Closed e = cc
 held-is Stage.Ended e = cc
+held-is Stage.Funded e = cc
+
+funded-is : (s : Stage) → not (is-funded s) ≡ false → s ≡ Stage.Funded
+funded-is Stage.Paired e = cc
+funded-is Stage.Prepaid e = cc
+funded-is Stage.Held e = cc
+funded-is Stage.Closed e = cc
+funded-is Stage.Ended e = cc
+funded-is Stage.Funded e = refl
 
 free-is : (s : ReceiptState) → is-struck s ≡ false → is-frozen s ≡ false → s ≡ ReceiptState.Free
 free-is ReceiptState.Free g h = refl
@@ -206,13 +222,13 @@ standing-is (Offer.Units u) h = refl
 declared-is : (h : Heat) → heat-missing h ≡ false → h ≡ Heat.Missing → ⊥
 declared-is h e m = impossible (cc (rw m at e))
 
-ruleset accepted = (joins, deposits, withdraws, trades, lodges, strikes, declares, offers, retracts, takes, days, closes, settles, measures, invoices, terminates)
+ruleset accepted = (joins, deposits, withdraws, trades, lodges, strikes, declares, offers, retracts, takes, days, closes, pays, measures, invoices, terminates, hands-over)
 
 -- test after test, the accepted answer behind them, and what each test that does not hold says
-ruleset tests = (test, refl, accepted, ltb-false, leb-false, eqb-true, eqb-false, not-false, both-not, flipped, paired-is, prepaid-is, held-is, free-is, missing-is, standing-is, declared-is)
+ruleset tests = (test, refl, accepted, ltb-false, leb-false, eqb-true, eqb-false, not-false, both-not, flipped, paired-is, prepaid-is, held-is, funded-is, free-is, missing-is, standing-is, declared-is)
 
 pub answered : (b : Book) (c : Call) → Answered b c (step b c)
-unfolding step join deposit withdraw trade lodge strike declare offer retract take-offer next-day close settle measure invoice terminate
+unfolding step join deposit withdraw trade lodge strike declare offer retract take-offer next-day close pay-match measure invoice terminate hand-over
 answered b (Call.Join residence fitness) = search tests depth 16
 answered b (Call.Deposit k x) = search tests depth 16
 answered b (Call.Withdraw k x) = search tests depth 16
@@ -225,10 +241,11 @@ answered b (Call.Retract seller) = search tests depth 16
 answered b (Call.Take buyer seller) = search tests depth 16
 answered b (Call.Day p) = search tests depth 16
 answered b Call.Close = search tests depth 16
-answered b (Call.Settle j) = search tests depth 16
+answered b (Call.Pay j) = search tests depth 16
 answered b (Call.Measure j w q m s f a) = search tests depth 16
 answered b (Call.Invoice j) = search tests depth 16
 answered b (Call.Terminate j party) = search tests depth 16
+answered b (Call.HandOver j) = search tests depth 16
 
 -- "A refusal is one number; the book is unchanged."
 refused-alone : {b : Book} {c : Call} {o : Outcome} → Answered b c o → (refusal-of (o .answer) ≡ 0 → ⊥) → refuse (refusal-of (o .answer)) b ≡ o
@@ -245,10 +262,11 @@ refused-alone (retracts g) h = absurd (h refl)
 refused-alone (takes g) h = absurd (h refl)
 refused-alone (days g) h = absurd (h refl)
 refused-alone (closes g) h = absurd (h refl)
-refused-alone (settles g) h = absurd (h refl)
+refused-alone (pays g) h = absurd (h refl)
 refused-alone (measures g) h = absurd (h refl)
 refused-alone (invoices g) h = absurd (h refl)
 refused-alone (terminates g) h = absurd (h refl)
+refused-alone (hands-over g) h = absurd (h refl)
 
 pub refused-is : (b : Book) (c : Call) {n : ℕ} → n ≡ refusal-of (step b c .answer) → (n ≡ 0 → ⊥) → refuse n b ≡ step b c
 refused-is b c q h = ap (λ (k : ℕ). refuse k b) q ∙ refused-alone (answered b c) (λ z. h (q ∙ z))
@@ -267,9 +285,9 @@ module _ (b : Book) where
   take-goes (refused n p) h = absurd (omega arith)
   take-goes (takes g) h = (g, refl)
 
-  settle-goes : {j : ℕ} {o : Outcome} → Answered b (Call.Settle j) o → refusal-of (o .answer) ≡ 0 → MaySettle b j × (accept 0 (settled b j (match-at b j) (buyer-fault b j) (seller-fault b j)) ≡ o)
-  settle-goes (refused n p) h = absurd (omega arith)
-  settle-goes (settles g) h = (g, refl)
+  pay-goes : {j : ℕ} {o : Outcome} → Answered b (Call.Pay j) o → refusal-of (o .answer) ≡ 0 → MayPay b j × (accept 0 (paid b j (match-at b j) (buyer-fault b j) (seller-fault b j)) ≡ o)
+  pay-goes (refused n p) h = absurd (omega arith)
+  pay-goes (pays g) h = (g, refl)
 
   measure-goes : {j w q m s f a : ℕ} {o : Outcome} → Answered b (Call.Measure j w q m s f a) o → refusal-of (o .answer) ≡ 0 → MayMeasure b j w q m s f a × (accept (cargo b (match-at b j) w m .over) (measured b j (match-at b j) (amount-due b (match-at b j) w q m s f a)) ≡ o)
   measure-goes (refused n p) h = absurd (omega arith)
@@ -283,6 +301,10 @@ module _ (b : Book) where
   terminate-goes (refused n p) h = absurd (omega arith)
   terminate-goes (terminates g) h = (g, refl)
 
+  hand-over-goes : {j : ℕ} {o : Outcome} → Answered b (Call.HandOver j) o → refusal-of (o .answer) ≡ 0 → MayHandOver b j × (accept 0 (handed b j (match-at b j) (value b (match-at b j))) ≡ o)
+  hand-over-goes (refused n p) h = absurd (omega arith)
+  hand-over-goes (hands-over g) h = (g, refl)
+
   pub trade-accepted : (buyer seller u : ℕ) {n : ℕ} → n ≡ refusal-of (trade b buyer seller u .answer) → n ≡ 0 → MayTrade b buyer seller u × (accept 0 (traded b buyer seller u) ≡ trade b buyer seller u)
   unfolding step
   trade-accepted buyer seller u e h = trade-goes (answered b (Call.Trade buyer seller u)) (sym e ∙ h)
@@ -295,9 +317,9 @@ module _ (b : Book) where
   unfolding step
   take-accepted buyer seller e h = take-goes (answered b (Call.Take buyer seller)) (sym e ∙ h)
 
-  pub settle-accepted : (j : ℕ) {n : ℕ} → n ≡ refusal-of (settle b j .answer) → n ≡ 0 → MaySettle b j × (accept 0 (settled b j (match-at b j) (buyer-fault b j) (seller-fault b j)) ≡ settle b j)
+  pub pay-accepted : (j : ℕ) {n : ℕ} → n ≡ refusal-of (pay-match b j .answer) → n ≡ 0 → MayPay b j × (accept 0 (paid b j (match-at b j) (buyer-fault b j) (seller-fault b j)) ≡ pay-match b j)
   unfolding step
-  settle-accepted j e h = settle-goes (answered b (Call.Settle j)) (sym e ∙ h)
+  pay-accepted j e h = pay-goes (answered b (Call.Pay j)) (sym e ∙ h)
 
   pub measure-accepted : (j w q m s f a : ℕ) {n : ℕ} → n ≡ refusal-of (measure b j w q m s f a .answer) → n ≡ 0 → MayMeasure b j w q m s f a × (accept (cargo b (match-at b j) w m .over) (measured b j (match-at b j) (amount-due b (match-at b j) w q m s f a)) ≡ measure b j w q m s f a)
   unfolding step
@@ -310,6 +332,10 @@ module _ (b : Book) where
   pub terminate-accepted : (j party : ℕ) {n : ℕ} → n ≡ refusal-of (terminate b j party .answer) → n ≡ 0 → MayTerminate b j party × (accept 0 (terminated b j (match-at b j) party) ≡ terminate b j party)
   unfolding step
   terminate-accepted j party e h = terminate-goes (answered b (Call.Terminate j party)) (sym e ∙ h)
+
+  pub hand-over-accepted : (j : ℕ) {n : ℕ} → n ≡ refusal-of (hand-over b j .answer) → n ≡ 0 → MayHandOver b j × (accept 0 (handed b j (match-at b j) (value b (match-at b j))) ≡ hand-over b j)
+  unfolding step
+  hand-over-accepted j e h = hand-over-goes (answered b (Call.HandOver j)) (sym e ∙ h)
 
 -- ---- the opening
 

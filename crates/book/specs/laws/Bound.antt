@@ -1,4 +1,4 @@
--- How much an account's cash and the fund can come to: what was deposited, and for each stage that a match has passed, the most that a settlement
+-- How much an account's cash and the fund can come to: what was deposited, and for each step that a match has come, the most that a settlement
 -- moves; and cells of no account hold no cash. By cases on the six changes. Assumes nothing.
 use mathlib.Core.Path.{_≡_, refl, ap, _∙_}
 use mathlib.Core.Bool.{Bool}
@@ -11,7 +11,6 @@ use lib.ListN.{getD, replicate}
 use Rattle.coal.specs.Choice.{pick}
 use Rattle.whole.specs.Whole.{natAbs-sum, natAbs-paid}
 use Rattle.book.specs.Types.{Stage, Account, Match, Book}
-use Rattle.book.specs.Codes.{stage-number}
 use Rattle.book.specs.Counting.{sum}
 use Rattle.book.specs.Rows.{blank-account, debited}
 use Rattle.book.specs.Tables.{account-at, match-at, pay, charge}
@@ -22,7 +21,7 @@ use Rattle.book.specs.laws.Counting.{by-pick, sum-most, at-set, at-other
 use Rattle.book.specs.laws.Answered.{of-opening}
 use Rattle.book.specs.laws.Sound.{SoundTables}
 use Rattle.book.specs.laws.Posting.{Within, weight, Posted, posted-cash}
-use Rattle.book.specs.laws.Settling.{most, settlement-sum}
+use Rattle.book.specs.laws.Settling.{rank, most, settlement-sum}
 use Rattle.book.specs.laws.Steps.{reached-tables}
 use Rattle.book.specs.laws.Journal.{stages, Change, refused, kept, joined, paid-in, paid-out, settled, changed}
 
@@ -80,7 +79,7 @@ change-bounded b r z (paid-out i x h n p) = record {
   blank = λ k m. posted-blank p k (b .«account_count») (h, tt) m (z .blank k m);
 }
 change-bounded b r z (settled s) =
-    let n = settlement-sum (λ (m : Match). stage-number (m .stage)) s r in
+    let n = settlement-sum (λ (m : Match). rank (m .stage)) s r in
     let d = ap (λ (x : Book). x .deposited) (s .same) in
     let c = ap (λ (x : Book). x .«account_count») (s .same) in
     record {
@@ -102,13 +101,14 @@ pub bounded : {b : Book} → Reached b → Bounded b
 bounded (opened kind t r p h) = opening-bounded kind t r p
 bounded (called {b = b} c h) = let r = reached-tables h in change-bounded b r (bounded h) (changed b c r)
 
-pub stage-few : (s : Stage) → stage-number s ≤ 4
-stage-few Stage.Paired = omega arith
-stage-few Stage.Prepaid = omega arith
-stage-few Stage.Held = omega arith
-stage-few Stage.Closed = omega arith
-stage-few Stage.Ended = omega arith
+rank-few : (s : Stage) → rank s ≤ 3
+rank-few Stage.Paired = omega arith
+rank-few Stage.Prepaid = omega arith
+rank-few Stage.Held = omega arith
+rank-few Stage.Closed = omega arith
+rank-few Stage.Ended = omega arith
+rank-few Stage.Funded = omega arith
 
-pub stages-few : (b : Book) → SoundTables b → stages b ≤ 756
+pub stages-few : (b : Book) → SoundTables b → stages b ≤ 567
 unfolding stages
-stages-few b r = omega (arith, r .matches-few, sum-most (λ j. stage-number (match-at b j .stage)) 4 (b .«match_count») 0 (λ j. stage-few (match-at b j .stage)))
+stages-few b r = omega (arith, r .matches-few, sum-most (λ j. rank (match-at b j .stage)) 3 (b .«match_count») 0 (λ j. rank-few (match-at b j .stage)))

@@ -156,7 +156,7 @@ module _ (c : Bool) (seller u : ℕ) (l : List Receipt) where
             (λ e. record {
               owner-there = t .rows i g .owner-there;
               frozen-there = λ k d. let y : j ≡ k = cc in omega arith;
-              frozen-paired = λ k d. let y : j ≡ k = cc in rw (← y) p;
+              frozen-stage = λ k d. let y : j ≡ k = cc in rw (← y) (rw p);
               frozen-seller = λ k d. let y : j ≡ k = cc in rw (← y) (newly-free i e .owner ∙ sym o);
             })
             (λ e. t .rows i g));

@@ -9,7 +9,6 @@ use lib.IntN.{pos}
 use lib.Signed.{ltZ}
 use lib.ListN.{length}
 use Rattle.book.specs.Types.{Account, Receipt, Match, Book, Outcome, Call}
-use Rattle.book.specs.Codes.{stage-number}
 use Rattle.book.specs.Counting.{sum}
 use Rattle.book.specs.Rows.{blank-account, blank-match, any-class, offer-units, units-off}
 use Rattle.book.specs.Tables.{account-at, match-at, with-receipts, with-open, with-day, with-deposited, put-account, add-account, add-match, pay, charge}
@@ -25,15 +24,15 @@ use Rattle.book.specs.laws.Counting.{at-set, sum-add}
 use Rattle.book.specs.laws.Answered.{Answered, answered}
 use Rattle.book.specs.laws.Sound.{Core, SoundTables}
 use Rattle.book.specs.laws.Posting.{Posted}
-use Rattle.book.specs.laws.Settling.{Settlement, settle-settles, measure-settles, invoice-settles, terminate-settles}
+use Rattle.book.specs.laws.Settling.{rank, Settlement, pay-settles, measure-settles, invoice-settles, terminate-settles, hand-over-settles}
 use Rattle.book.specs.laws.Calls.{deposit-posted, withdraw-posted}
 use Rattle.book.specs.laws.Pairing.{Pairable, pair-core}
 use Rattle.book.specs.laws.Closing.{passes-keep, lapsed}
 use Rattle.book.specs.laws.Taking.{take-pairable}
 
--- the stages of all matches, added up: every settlement raises it
+-- how far all matches have come, added up: every settlement raises it
 unfoldable pub stages : Book → ℕ
-stages b = sum (b .«match_count») 0 (λ j. stage-number (match-at b j .stage))
+stages b = sum (b .«match_count») 0 (λ j. rank (match-at b j .stage))
 
 -- ---- no money moves from b to e
 
@@ -67,14 +66,14 @@ kept-account b k a e = record {
   deposited = refl;
 }
 
--- a match more, with nothing held, at stage 0
-kept-match : (b : Book) (m : Match) → b .«match_count» < length (b .matches) → m .held ≡ 0 → stage-number (m .stage) ≡ 0 → Kept b (add-match b m)
+-- a match more, with nothing held, that is paired
+kept-match : (b : Book) (m : Match) → b .«match_count» < length (b .matches) → m .held ≡ 0 → rank (m .stage) ≡ 0 → Kept b (add-match b m)
 unfolding total-held stages
 kept-match b m h e f = record {
   count = refl;
   cash = λ k. refl;
   held = sum-add (λ m. m .held) (b .matches) (b .«match_count») m blank-match h ∙ omega arith;
-  stages = sum-add (λ m. stage-number (m .stage)) (b .matches) (b .«match_count») m blank-match h ∙ omega arith;
+  stages = sum-add (λ m. rank (m .stage)) (b .matches) (b .«match_count») m blank-match h ∙ omega arith;
   fund = refl;
   deposited = refl;
 }
@@ -125,10 +124,11 @@ change {b} (Answered.retracts {seller = n} g) r = kept (kept-account b n _ refl)
 change {b} (Answered.takes {buyer = m} {seller = n} g) r = kept (kept-then (kept-pair b any-class 2 m n (offer-units (account-at b n .offer)) (omega arith) (r .core) (take-pairable r g)) (kept-account _ n _ refl))
 change {b} (Answered.days {p = p} g) r = kept (kept-frame b (b .receipts) (b .«receipt_count») p (b .day + 1) (b .«open»))
 change {b} (Answered.closes g) r = kept (kept-close b r (g .is-open))
-change {b} (Answered.settles {j = j} g) r = settled (settle-settles b r j (g .there) (g .paired))
+change {b} (Answered.pays {j = j} g) r = settled (pay-settles b r j (g .there) (g .paired))
 change {b} (Answered.measures {j = j} {w = w} {q = q} {m = m} {s = s} {f = f} {a = a} g) r = settled (measure-settles b r j (g .there) (g .prepaid) w q m s f a)
 change {b} (Answered.invoices {j = j} g) r = settled (invoice-settles b r j (g .there) (g .in-hold))
 change {b} (Answered.terminates {j = j} {party = party} g) r = settled (terminate-settles b r j (g .there) (g .prepaid) party)
+change {b} (Answered.hands-over {j = j} g) r = settled (hand-over-settles b r j (g .there) (g .funded))
 
 pub changed : (b : Book) (c : Call) → SoundTables b → Change b (entries b c) (amounts c .deposited) (amounts c .withdrawn) (accepts b c) (step b c .book)
 changed b c r = change (answered b c) r

@@ -113,10 +113,13 @@ new-sound b days buyer seller u d p r =
     let s = r .accounts .rows seller (p .seller-there) in
     let few : u ≤ 1_000 = omega (arith, s .few, p .seller-has) in
     let none : 0 ≤ 22_000_000_000_000 = omega arith in
-    search (unpaid {A = account-at b seller .heat ≡ Heat.Missing → ⊥}, unpaid, pairable-two, arith)
+    search (unpaid {A = account-at b seller .heat ≡ Heat.Missing → ⊥}, unpaid, unfunded, pairable-two, arith)
   where
     unpaid : {A : Type 0} → Stage.Paired ≡ Stage.Prepaid → A
     unpaid e = impossible (cc)
+
+    unfunded : {A : Type 0} → Stage.Paired ≡ Stage.Funded → A
+    unfunded e = impossible (cc)
 
 core-match : (b : Book) (c : Match) → b .«match_count» < 256 → SoundMatch (b .«account_count») (b .day) (b .tonnes) (b .board) c → Core b → Core (add-match b c)
 core-match b c h m r =

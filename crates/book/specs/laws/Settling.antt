@@ -1,31 +1,41 @@
--- Settle, Measure, Invoice and Terminate, where they are accepted, are each one settlement of a match: entries are posted, the fund may gain, the
--- match gets a stage and money held, and no receipt stays frozen for it. All laws of these calls are read from that. Assumes nothing.
+-- Pay, Measure, Invoice, Terminate and Hand over, where they are accepted, are each one settlement of a match: entries are posted, the fund may gain,
+-- the match gets a stage and money held, and receipts stay frozen for it only where that stage has them. All laws of these calls are read from
+-- that. Assumes nothing.
 use mathlib.Core.Path.{_≡_, refl, sym, ap, _∙_, subst}
 use mathlib.Core.Logic.{_≢_}
 use mathlib.Core.Bool.{Bool, true, false, not}
 use mathlib.Core.List.{List, [], _∷_}
 use Prim.Native.Nat.{ℕ, _+_, _-_, _*_, _≤_, _<_}
 use native.Mathlib.Omega.{arith}
-use lib.Dec.{eqb}
+use lib.Dec.{ltb, eqb}
 use lib.IntN.{pos, negℤ, _+ℤ_, +ℤ-idr, +ℤ-assoc}
 use lib.ListN.{length, getD, set, length-set}
 use lib.Seq.{set-getD}
+use borrow.Author.Tests.{eqb-true, ltb-false, ne-eqb}
 use Rattle.coal.specs.Choice.{pick}
 use Rattle.coal.specs.Bounds.{percent-down-most}
 use Rattle.whole.specs.Ring.{ring}
 use Rattle.whole.specs.Whole.{pos-minus, natAbs-neg}
 use Rattle.book.specs.Types.{Heat, ReceiptState, Stage, Account, Receipt, Match, Book, Fault}
-use Rattle.book.specs.Codes.{stage-number}
-use Rattle.book.specs.Counting.{iter, sum}
-use Rattle.book.specs.Rows.{blank-receipt, blank-match, is-frozen, is-frozen-for, with-held, with-state}
-use Rattle.book.specs.Tables.{account-at, match-at, put-match, with-accounts, with-receipts, with-fund, pay, charge}
-use Rattle.book.specs.Settlement.{value, seller-fault, buyer-fault, penalty, punish, release-turn, free-again, pass-turn, pass-receipts, set-stage, first-part, settle-receipts, settle-board, settle-ended, settled, amount-due, measured, terminated}
-use Rattle.book.specs.Entries.{Entry, plus, minus, penalty-entries, settle-entries, measure-entries, terminate-entries}
+use Rattle.book.specs.Counting.{iter, sum, one-if}
+use Rattle.book.specs.Rows.{blank-receipt, blank-match, is-frozen, is-frozen-for, has-frozen, with-held, with-state}
+use Rattle.book.specs.Tables.{account-at, match-at, put-match, with-accounts, with-receipts, with-fund, pay, charge, frozen-receipts}
+use Rattle.book.specs.Settlement.{value, seller-fault, buyer-fault, penalty, punish, release-turn, free-again, pass-turn, pass-receipts, set-stage, first-part, into-held, fault-ended, paid, amount-due, measured, terminated, handed}
+use Rattle.book.specs.Entries.{Entry, plus, minus, penalty-entries, pay-entries, measure-entries, terminate-entries, hand-over-entries}
 use Rattle.book.specs.laws.Counting.{by-pick, rows-add, iter-keeps, sum-set, impossible}
-use Rattle.book.specs.laws.Sound.{SoundMatch, ReceiptTable, SoundTables}
-use Rattle.book.specs.laws.Tables.{matches-put, receipts-put, receipts-rematched, None-frozen, not-frozen, unfrozen-for}
+use Rattle.book.specs.laws.Sound.{SoundMatch, frozen-of, ReceiptTable, SoundTables}
+use Rattle.book.specs.laws.Tables.{matches-put, receipts-put, receipts-rematched, receipts-restaged, None-frozen, not-frozen, unfrozen-for, frozen-set}
 use Rattle.book.specs.laws.Bounds.{value-most, due-most}
 use Rattle.book.specs.laws.Posting.{Within, all-entries, weight, Posted, posted-none, post, posted-accounts, posted-offers}
+
+-- how far a match has come: a settlement takes it on
+abbrev pub rank : Stage → ℕ
+rank Stage.Paired = 0
+rank Stage.Prepaid = 1
+rank Stage.Held = 2
+rank Stage.Closed = 3
+rank Stage.Ended = 3
+rank Stage.Funded = 1
 
 -- the most that a settlement moves, to and from all accounts together, and into the fund
 abbrev pub most : ℕ
@@ -50,14 +60,16 @@ pub record Settlement (b : Book) (es : List Entry) (e : Book) : Type 0 where
   pub small : weight es ≤ most
   pub gained-small : gained ≤ most
   pub even : all-entries es +ℤ pos held +ℤ pos gained ≡ pos (match-at b number .held)
-  pub later : stage-number (match-at b number .stage) < stage-number stage
+  pub later : rank (match-at b number .stage) < rank stage
   pub row : SoundMatch (b .«account_count») (b .day) (b .tonnes) (b .board) (with-held (match-at b number) held stage)
-  pub freed : Freed (b .«account_count») (b .«match_count») (b .matches) (b .board) (b .«receipt_count») number (b .«receipt_count») (e .receipts)
+  pub receipts : ReceiptTable (b .«account_count») (b .«match_count») (set (b .matches) number (with-held (match-at b number) held stage)) (b .board) (b .«receipt_count») (e .receipts)
+  -- receipts of other matches stay frozen, and where it is funded, as many as its units are frozen for it
+  pub others : (k : ℕ) → k ≢ number → frozen-of (b .«receipt_count») (b .receipts) k ≤ frozen-of (b .«receipt_count») (e .receipts) k
+  pub all-frozen : stage ≡ Stage.Funded → match-at b number .units ≤ frozen-of (b .«receipt_count») (e .receipts) number
 
 pub settlement-tables : {b e : Book} {es : List Entry} → Settlement b es e → SoundTables b → SoundTables e
 settlement-tables {b} s r =
-    let c = with-held (match-at b (s .number)) (s .held) (s .stage) in
-    let l = receipts-rematched (b .«match_count») (s .number) c (omega arith) (λ k h n. h) (s .freed .done) (s .freed .table) in
+    let l = s .receipts in
     subst SoundTables (sym (s .same)) (search (posted-accounts, posted-offers, matches-put))
 
 -- ---- the match
@@ -69,6 +81,7 @@ Holding tonnes board m x Stage.Prepaid = (x ≡ m .units * m .price * tonnes) ×
 Holding tonnes board m x Stage.Held = Unit {0}
 Holding tonnes board m x Stage.Closed = x ≡ 0
 Holding tonnes board m x Stage.Ended = x ≡ 0
+Holding tonnes board m x Stage.Funded = (x ≡ m .units * m .price * tonnes) × (board ≡ false)
 
 staged : {n day tonnes : ℕ} {board : Bool} {m : Match} (x : ℕ) (s : Stage) → x ≤ 22_000_000_000_000 → Holding tonnes board m x s → SoundMatch n day tonnes board m → SoundMatch n day tonnes board (with-held m x s)
 staged {tonnes = tonnes} {board} {m} x s h g r =
@@ -76,16 +89,22 @@ staged {tonnes = tonnes} {board} {m} x s h g r =
     let value : s ≡ Stage.Prepaid → x ≡ m .units * m .price * tonnes = λ e. at Stage.Prepaid e .0 in
     let kind : s ≡ Stage.Prepaid → board ≡ true = λ e. at Stage.Prepaid e .1 in
     let heat : s ≡ Stage.Prepaid → m .heat ≡ Heat.Missing → ⊥ = λ e. at Stage.Prepaid e .2 in
+    let worth : s ≡ Stage.Funded → x ≡ m .units * m .price * tonnes = λ e. at Stage.Funded e .0 in
+    let not-board : s ≡ Stage.Funded → board ≡ false = λ e. at Stage.Funded e .1 in
     search (at Stage.Paired, at Stage.Closed, at Stage.Ended)
 
 -- ---- the receipts
 
--- only a paired match has receipts frozen for it
-unpaired-none : (b : Book) (j : ℕ) → match-at b j .stage ≢ Stage.Paired → SoundTables b
+-- the match for which none stays frozen gets another stage
+freed-table : {n m : ℕ} {ms : List Match} {board : Bool} {count j : ℕ} {l : List Receipt} (c : Match) → Freed n m ms board count j count l → ReceiptTable n m (set ms j c) board count l
+freed-table {m = m} {j = j} c t = receipts-rematched m j c (omega arith) (λ k h n. h) (t .done) (t .table)
+
+-- only a match that is paired or funded has receipts frozen for it
+other-none : (b : Book) (j : ℕ) {s : Stage} → match-at b j .stage ≡ s → has-frozen s ≡ false → SoundTables b
     → Freed (b .«account_count») (b .«match_count») (b .matches) (b .board) (b .«receipt_count») j (b .«receipt_count») (b .receipts)
-unpaired-none b j h r = record {
+other-none b j h f r = record {
   table = r .core .receipts;
-  done = λ i k. not-frozen _ j (λ n e q. h (ap (λ (x : ℕ). match-at b x .stage) (sym q) ∙ r .core .receipts .rows i k .frozen-paired n e));
+  done = λ i k. not-frozen _ j (λ n e q. let z = r .core .receipts .rows i k .frozen-stage n e in let y = ap (λ (x : ℕ). match-at b x .stage) q in impossible (cc));
 }
 
 module _ (new : Receipt → Receipt) (j : ℕ) where
@@ -107,6 +126,25 @@ module _ (new : Receipt → Receipt) (j : ℕ) where
       → ReceiptTable n m ms board count l → Freed n m ms board count j count (iter count 0 free-turn l)
   free-all {n} {m} {ms} {board} {count} {l} o f t =
       iter-keeps (Freed n m ms board count j) free-turn count (λ i l h g. free-one o f i l h g) count 0 l (omega arith) (record { table = t; done = λ k h. absurd (omega arith) })
+
+  -- the receipts of another match stay frozen
+  free-others : ((r : Receipt) → is-frozen (new r .state) ≡ false) → (k : ℕ) → k ≢ j → (count : ℕ) (l : List Receipt) → count ≤ length l → frozen-of count l k ≤ frozen-of count (iter count 0 free-turn l) k
+  free-others f k d count l h =
+      iter-keeps (λ i t. (length t ≡ length l) × (frozen-of count l k ≤ frozen-of count t k)) free-turn count (λ i t g p. one i t g p) count 0 l (omega arith) (refl, omega arith) .1
+    where
+      for-one : (s : ReceiptState) → is-frozen-for j s ≡ true → is-frozen-for k s ≡ false
+      for-one ReceiptState.Free e = refl
+      for-one (ReceiptState.Frozen i) e = rw (eqb-true i j e) (ne-eqb j k (λ q. d (sym q)))
+      for-one ReceiptState.Struck e = refl
+
+      one : (i : ℕ) (t : List Receipt) → i < count → (length t ≡ length l) × (frozen-of count l k ≤ frozen-of count t k) → (length (free-turn i t) ≡ length l) × (frozen-of count l k ≤ frozen-of count (free-turn i t) k)
+      one i t g p =
+          let r = getD t i blank-receipt in
+          by-pick (λ (x : Receipt). (length (set t i x) ≡ length l) × (frozen-of count l k ≤ frozen-of count (set t i x) k)) (is-frozen-for j (r .state))
+          (λ z.
+          let old : one-if (is-frozen-for k (r .state)) ≡ 0 = ap one-if (for-one (r .state) z) in
+          (simp length-set (p .0), omega (arith, p .1, frozen-set t count i (new r) k g (omega (arith, p .0)))))
+          (λ z. rw set-getD p)
 
 -- ---- penalties
 
@@ -187,6 +225,17 @@ faultless-heat b j e q h = go (account-at b (match-at b j .seller) .fit) (rw (q,
     go true f = impossible (cc)
     go false f = impossible (cc)
 
+-- in a receipts book as many as the units are frozen for it
+faultless-frozen : (b : Book) (j : ℕ) → seller-fault b j ≡ Fault.Faultless → b .board ≡ false → match-at b j .units ≤ frozen-of (b .«receipt_count») (b .receipts) j
+unfolding seller-fault frozen-receipts
+faultless-frozen b j e q = go (account-at b (match-at b j .seller) .fit) (ltb (frozen-of (b .«receipt_count») (b .receipts) j) (match-at b j .units)) refl (rw q at e)
+  where
+    go : (s t : Bool) → ltb (frozen-of (b .«receipt_count») (b .receipts) j) (match-at b j .units) ≡ t → pick (not s) (Fault.Percent 10) (pick t (Fault.Percent (b .rate)) Fault.Faultless) ≡ Fault.Faultless
+        → match-at b j .units ≤ frozen-of (b .«receipt_count») (b .receipts) j
+    go true true h f = impossible (cc)
+    go true false h f = ltb-false _ _ h
+    go false t h f = impossible (cc)
+
 module _ (b : Book) (r : SoundTables b) (j : ℕ) (p : j < b .«match_count») where
   row : SoundMatch (b .«account_count») (b .day) (b .tonnes) (b .board) (match-at b j)
   row = r .core .matches .rows j p
@@ -199,6 +248,9 @@ module _ (b : Book) (r : SoundTables b) (j : ℕ) (p : j < b .«match_count») w
 
   seller-cell : match-at b j .seller < length (b .accounts)
   seller-cell = omega (arith, row .seller-there, all-there)
+
+  receipts-there : b .«receipt_count» ≤ length (b .receipts)
+  receipts-there = omega (arith, r .core .receipts .size, r .core .receipts .few)
 
   value-few : value b (match-at b j) ≤ 20_000_000_000_000
   value-few = value-most b (match-at b j) (row .few) (row .price-high) (r .core .terms .tonnes-few)
@@ -221,9 +273,11 @@ module _ (b : Book) (r : SoundTables b) (j : ℕ) (p : j < b .«match_count») w
         small = omega (arith, row .held-few);
         gained-small = omega arith;
         even = simp ring;
-        later = omega (arith, ap stage-number s);
+        later = omega (arith, ap rank s);
         row = staged 0 Stage.Closed (omega arith) refl row;
-        freed = unpaired-none b j (λ e. impossible (cc)) r;
+        receipts = freed-table _ (other-none b j s refl r);
+        others = λ k d. omega arith;
+        all-frozen = λ e. impossible (cc);
       }
 
   -- "buyer gets V back and pays B; seller gets 80% of B, down; the rest is held; stage held."
@@ -252,9 +306,11 @@ module _ (b : Book) (r : SoundTables b) (j : ℕ) (p : j < b .«match_count») w
         small = omega (arith, value-few, natAbs-neg (pos x));
         gained-small = omega arith;
         even = rw (row .prepaid-value t, pos-minus x y) (simp ring);
-        later = omega (arith, ap stage-number t);
+        later = omega (arith, ap rank t);
         row = staged (x - y) Stage.Held (omega arith) tt row;
-        freed = unpaired-none b j (λ e. impossible (cc)) r;
+        receipts = freed-table _ (other-none b j t refl r);
+        others = λ k d. omega arith;
+        all-frozen = λ e. impossible (cc);
       }
 
   -- "buyer gets V back; party or parties at fault pay R% of V as above; ended."
@@ -280,9 +336,11 @@ module _ (b : Book) (r : SoundTables b) (j : ℕ) (p : j < b .«match_count») w
         small = omega (arith, value-few, d .small);
         gained-small = omega (arith, value-few, d .gained-small);
         even = rw (row .prepaid-value s, +ℤ-idr, +ℤ-assoc, d .even, +ℤ-idr);
-        later = omega (arith, ap stage-number s);
+        later = omega (arith, ap rank s);
         row = staged 0 Stage.Ended (omega arith) refl row;
-        freed = rw (d .same) (unpaired-none b j (λ e. impossible (cc)) r);
+        receipts = rw (d .same) (freed-table _ (other-none b j s refl r));
+        others = λ k n. rw (d .same) (omega arith);
+        all-frozen = λ e. impossible (cc);
       }
 
   pub terminate-settles : match-at b j .stage ≡ Stage.Prepaid → (party : ℕ) → Settlement b (terminate-entries b (match-at b j) party) (terminated b j (match-at b j) party)
@@ -291,13 +349,13 @@ module _ (b : Book) (r : SoundTables b) (j : ℕ) (p : j < b .«match_count») w
       let h = percent (r .core .terms .rate-few) in
       returned-settles s (few-if (not (eqb party 1)) h faultless) (few-if (not (eqb party 0)) h faultless)
 
-  -- "Then the match is ended and its receipts are free again."
-  ended-settles : match-at b j .stage ≡ Stage.Paired → {x y : Fault} → Few x → Few y → Settlement b (penalty-entries b (match-at b j) x y) (settle-ended b j (match-at b j) x y)
-  unfolding settle-ended free-again release-turn
+  -- "ends the match on a fault": "Then the match is ended and its receipts are free again."
+  ended-settles : match-at b j .stage ≡ Stage.Paired → {x y : Fault} → Few x → Few y → Settlement b (penalty-entries b (match-at b j) x y) (fault-ended b j (match-at b j) x y)
+  unfolding fault-ended free-again release-turn
   ended-settles s {x} {y} f g =
       let m = match-at b j in
       let d = fined b (b .accounts) m (row .buyer-there) (row .seller-there) all-there f g in
-      let e = settle-ended b j m x y in
+      let e = fault-ended b j m x y in
       let new : Receipt → Receipt = λ z. with-state z ReceiptState.Free in
       let t = subst (λ (q : Book). Freed (b .«account_count») (b .«match_count») (b .matches) (b .board) (b .«receipt_count») j (b .«receipt_count») (iter (q .«receipt_count») 0 (release-turn j) (q .receipts))) (sym (d .same))
       (free-all new j (λ z o. o) (λ z. refl) (r .core .receipts)) in
@@ -314,23 +372,28 @@ module _ (b : Book) (r : SoundTables b) (j : ℕ) (p : j < b .«match_count») w
         small = omega (arith, value-few, d .small);
         gained-small = omega (arith, value-few, d .gained-small);
         even = rw (row .paired-none s, +ℤ-idr) (d .even);
-        later = omega (arith, ap stage-number s);
+        later = omega (arith, ap rank s);
         row = staged 0 Stage.Ended (omega arith) refl row;
-        freed = t;
+        receipts = freed-table _ t;
+        others = λ k n. subst (λ (q : Book). frozen-of (b .«receipt_count») (b .receipts) k ≤ frozen-of (b .«receipt_count») (iter (q .«receipt_count») 0 (release-turn j) (q .receipts)) k) (sym (d .same))
+            (free-others new j (λ z. refl) k n (b .«receipt_count») (b .receipts) receipts-there);
+        all-frozen = λ z. impossible (cc);
       }
 
-  -- "Board book: V is held; stage prepaid."
-  board-settles : match-at b j .stage ≡ Stage.Paired → b .board ≡ true → seller-fault b j ≡ Fault.Faultless
-      → Settlement b (minus (match-at b j .buyer) (value b (match-at b j)) ∷ []) (settle-board b j (match-at b j) (value b (match-at b j)))
-  unfolding all-entries weight settle-board charge value
-  board-settles s q f =
+  -- "moves V into money held", at a later stage at which it may be held
+  into-held-settles : match-at b j .stage ≡ Stage.Paired → (s : Stage) → 0 < rank s → Holding (b .tonnes) (b .board) (match-at b j) (value b (match-at b j)) s
+      → ReceiptTable (b .«account_count») (b .«match_count») (set (b .matches) j (with-held (match-at b j) (value b (match-at b j)) s)) (b .board) (b .«receipt_count») (b .receipts)
+      → (s ≡ Stage.Funded → match-at b j .units ≤ frozen-of (b .«receipt_count») (b .receipts) j)
+      → Settlement b (minus (match-at b j .buyer) (value b (match-at b j)) ∷ []) (into-held b j (match-at b j) (value b (match-at b j)) s)
+  unfolding all-entries weight into-held charge
+  into-held-settles q s h g t a =
       let m = match-at b j in
       let v = value b m in
       record {
         number = j;
         there = p;
         held = v;
-        stage = Stage.Prepaid;
+        stage = s;
         gained = 0;
         same = refl;
         posted = post (b .accounts) (m .buyer) (negℤ (pos v)) buyer-cell (posted-none _);
@@ -338,23 +401,44 @@ module _ (b : Book) (r : SoundTables b) (j : ℕ) (p : j < b .«match_count») w
         within = (row .buyer-there, tt);
         small = omega (arith, value-few, natAbs-neg (pos v));
         gained-small = omega arith;
-        even = rw (row .paired-none s) (simp ring);
-        later = omega (arith, ap stage-number s);
-        row = staged v Stage.Prepaid (omega (arith, value-few)) (refl, q, faultless-heat b j f q) row;
-        freed = record { table = r .core .receipts; done = λ i k. absurd (omega (arith, r .core .receipts .none q)) };
+        even = rw (row .paired-none q) (simp ring);
+        later = omega (arith, ap rank q);
+        row = staged v s (omega (arith, value-few)) g row;
+        receipts = t;
+        others = λ k d. omega arith;
+        all-frozen = a;
       }
 
-  -- "Receipts book: seller gets 80% of V, down, the rest is held; the receipts pass to the buyer, free; stage held."
-  receipts-settles : match-at b j .stage ≡ Stage.Paired
-      → Settlement b (minus (match-at b j .buyer) (value b (match-at b j)) ∷ plus (match-at b j .seller) (first-part (value b (match-at b j))) ∷ []) (settle-receipts b j (match-at b j) (value b (match-at b j)))
-  unfolding all-entries weight settle-receipts pass-receipts pass-turn pay charge
-  receipts-settles s =
+  -- "In a receipts book it gives the new stage 5, funded." "A board match goes from Pay to prepaid."
+  no-fault-settles : match-at b j .stage ≡ Stage.Paired → seller-fault b j ≡ Fault.Faultless → (t : Bool) → b .board ≡ t
+      → Settlement b (minus (match-at b j .buyer) (value b (match-at b j)) ∷ []) (into-held b j (match-at b j) (value b (match-at b j)) (pick t Stage.Prepaid Stage.Funded))
+  unfolding value
+  no-fault-settles s f true e =
+      into-held-settles s Stage.Prepaid (omega arith) (refl, e, faultless-heat b j f e)
+      (freed-table _ (record { table = r .core .receipts; done = λ i k. absurd (omega (arith, r .core .receipts .none e)) }))
+      (λ z. impossible (cc))
+  no-fault-settles s f false e =
+      into-held-settles s Stage.Funded (omega arith) (refl, e) (receipts-restaged j _ refl refl refl (r .core .receipts)) (λ z. faultless-frozen b j f e)
+
+  paid-settles : match-at b j .stage ≡ Stage.Paired → {x y : Fault} → Few x → Few y → seller-fault b j ≡ y → Settlement b (pay-entries b (match-at b j) x y) (paid b j (match-at b j) x y)
+  unfolding paid pay-entries
+  paid-settles s faultless faultless e = no-fault-settles s e (b .board) refl
+  paid-settles s (percent f) faultless e = ended-settles s (percent f) faultless
+  paid-settles s faultless (percent g) e = ended-settles s faultless (percent g)
+  paid-settles s (percent f) (percent g) e = ended-settles s (percent f) (percent g)
+
+  pub pay-settles : match-at b j .stage ≡ Stage.Paired → Settlement b (pay-entries b (match-at b j) (buyer-fault b j) (seller-fault b j)) (paid b j (match-at b j) (buyer-fault b j) (seller-fault b j))
+  pay-settles s = paid-settles s (buyer-few b j (r .core .terms .rate-few)) (seller-few b j (r .core .terms .rate-few)) refl
+
+  -- "passes the receipts and pays the seller's 80%"
+  pub hand-over-settles : match-at b j .stage ≡ Stage.Funded → Settlement b (hand-over-entries b (match-at b j)) (handed b j (match-at b j) (value b (match-at b j)))
+  unfolding all-entries weight hand-over-entries handed pass-receipts pass-turn pay value
+  hand-over-settles s =
       let m = match-at b j in
       let v = value b m in
       let y = first-part v in
       let part : y ≤ v = percent-down-most 80 v (omega arith) in
       let new : Receipt → Receipt = λ z. record { owner = m .buyer; bonded = z .bonded; state = ReceiptState.Free } in
-      let t = free-all new j (λ z o. row .buyer-there) (λ z. refl) (r .core .receipts) in
       record {
         number = j;
         there = p;
@@ -362,31 +446,18 @@ module _ (b : Book) (r : SoundTables b) (j : ℕ) (p : j < b .«match_count») w
         stage = Stage.Held;
         gained = 0;
         same = refl;
-        posted = post (b .accounts) (m .buyer) (negℤ (pos v)) buyer-cell (post _ (m .seller) (pos y) (simp length-set seller-cell) (posted-none _));
+        posted = post (b .accounts) (m .seller) (pos y) seller-cell (posted-none _);
         fund = omega arith;
-        within = (row .buyer-there, (row .seller-there, tt));
-        small = omega (arith, value-few, natAbs-neg (pos v));
+        within = (row .seller-there, tt);
+        small = omega (arith, value-few);
         gained-small = omega arith;
-        even = rw (row .paired-none s, pos-minus v y) (simp ring);
-        later = omega (arith, ap stage-number s);
+        even = rw (row .funded-value s) (ap pos (omega arith));
+        later = omega (arith, ap rank s);
         row = staged (v - y) Stage.Held (omega (arith, value-few)) tt row;
-        freed = t;
+        receipts = freed-table _ (free-all new j (λ z o. row .buyer-there) (λ z. refl) (r .core .receipts));
+        others = λ k n. free-others new j (λ z. refl) k n (b .«receipt_count») (b .receipts) receipts-there;
+        all-frozen = λ z. impossible (cc);
       }
-
-  paid-settles : match-at b j .stage ≡ Stage.Paired → seller-fault b j ≡ Fault.Faultless → (t : Bool) → b .board ≡ t
-      → Settlement b (minus (match-at b j .buyer) (value b (match-at b j)) ∷ pick t [] (plus (match-at b j .seller) (first-part (value b (match-at b j))) ∷ [])) (pick t (settle-board b j (match-at b j) (value b (match-at b j))) (settle-receipts b j (match-at b j) (value b (match-at b j))))
-  paid-settles s f true e = board-settles s e f
-  paid-settles s f false e = receipts-settles s
-
-  settled-settles : match-at b j .stage ≡ Stage.Paired → {x y : Fault} → Few x → Few y → seller-fault b j ≡ y → Settlement b (settle-entries b (match-at b j) x y) (settled b j (match-at b j) x y)
-  unfolding settled settle-entries
-  settled-settles s faultless faultless e = paid-settles s e (b .board) refl
-  settled-settles s (percent f) faultless e = ended-settles s (percent f) faultless
-  settled-settles s faultless (percent g) e = ended-settles s faultless (percent g)
-  settled-settles s (percent f) (percent g) e = ended-settles s (percent f) (percent g)
-
-  pub settle-settles : match-at b j .stage ≡ Stage.Paired → Settlement b (settle-entries b (match-at b j) (buyer-fault b j) (seller-fault b j)) (settled b j (match-at b j) (buyer-fault b j) (seller-fault b j))
-  settle-settles s = settled-settles s (buyer-few b j (r .core .terms .rate-few)) (seller-few b j (r .core .terms .rate-few)) refl
 
 -- ---- sums over the matches
 

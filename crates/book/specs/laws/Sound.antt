@@ -1,14 +1,14 @@
 -- What holds of every reached book, in parts. Each part names only what it reads of a book, so that a call that leaves that leaves the
 -- part. Assumes nothing.
 use mathlib.Core.Path.{_≡_}
-use mathlib.Core.Bool.{Bool, true}
+use mathlib.Core.Bool.{Bool, true, false}
 use mathlib.Core.List.{List}
 use Prim.Native.Nat.{ℕ, _+_, _*_, _≤_, _<_}
 use lib.ListN.{length, getD}
 use lib.IntN.{natAbs}
 use Rattle.book.specs.Types.{Side, Heat, Offer, ReceiptState, Stage, Lots, Account, Receipt, Match, Book}
 use Rattle.book.specs.Counting.{tally}
-use Rattle.book.specs.Rows.{blank-account, blank-receipt, blank-match, short-units}
+use Rattle.book.specs.Rows.{blank-account, blank-receipt, blank-match, short-units, has-frozen}
 use Rattle.book.specs.Tables.{account-at, frozen-at}
 
 -- ---- rows
@@ -60,20 +60,22 @@ pub record SoundMatch (accounts day tonnes : ℕ) (board : Bool) (m : Match) : T
   pub due-soon : m .due ≤ day + 2
   pub heat-low : (h : ℕ) → m .heat ≡ Heat.Declared h → 4_300 ≤ h
   pub heat-high : (h : ℕ) → m .heat ≡ Heat.Declared h → h ≤ 10_000
-  -- what is held at a stage: nothing, V in a board book with its heat declared, or a rest
+  -- what is held at a stage: nothing, V in a board book with its heat declared, V in a receipts book, or a rest
   pub paired-none : m .stage ≡ Stage.Paired → m .held ≡ 0
   pub prepaid-value : m .stage ≡ Stage.Prepaid → m .held ≡ m .units * m .price * tonnes
   pub prepaid-board : m .stage ≡ Stage.Prepaid → board ≡ true
   pub prepaid-heat : m .stage ≡ Stage.Prepaid → m .heat ≡ Heat.Missing → ⊥
   pub closed-none : m .stage ≡ Stage.Closed → m .held ≡ 0
   pub ended-none : m .stage ≡ Stage.Ended → m .held ≡ 0
+  pub funded-value : m .stage ≡ Stage.Funded → m .held ≡ m .units * m .price * tonnes
+  pub funded-board : m .stage ≡ Stage.Funded → board ≡ false
   pub held-few : m .held ≤ 22_000_000_000_000
 
--- a receipt of a book with so many accounts and so many of these matches: where it is frozen, then for a match that is still paired, whose seller's it is
+-- a receipt of a book with so many accounts and so many of these matches: where it is frozen, then for a match that is paired or funded, whose seller's it is
 pub record SoundReceipt (accounts count : ℕ) (matches : List Match) (r : Receipt) : Type 0 where
   pub owner-there : r .owner < accounts
   pub frozen-there : (j : ℕ) → r .state ≡ ReceiptState.Frozen j → j < count
-  pub frozen-paired : (j : ℕ) → r .state ≡ ReceiptState.Frozen j → getD matches j blank-match .stage ≡ Stage.Paired
+  pub frozen-stage : (j : ℕ) → r .state ≡ ReceiptState.Frozen j → has-frozen (getD matches j blank-match .stage) ≡ true
   pub frozen-seller : (j : ℕ) → r .state ≡ ReceiptState.Frozen j → r .owner ≡ getD matches j blank-match .seller
 
 -- ---- tables
@@ -133,5 +135,5 @@ pub record SoundTables (b : Book) : Type 0 where
 -- what holds of every reached book
 pub record Sound (b : Book) : Type 0 where
   pub tables : SoundTables b
-  pub cash-few : (k : ℕ) → natAbs (account-at b k .cash) ≤ 148_384_000_000_000_000
-  pub fund-few : b .fund ≤ 48_384_000_000_000_000
+  pub cash-few : (k : ℕ) → natAbs (account-at b k .cash) ≤ 136_288_000_000_000_000
+  pub fund-few : b .fund ≤ 36_288_000_000_000_000

@@ -1,7 +1,7 @@
 -- How one change of a book changes what holds of its tables: of each table, and of all. Assumes nothing.
 use mathlib.Core.Path.{_≡_, refl, sym, ap, _∙_}
 use mathlib.Core.Logic.{_≢_}
-use mathlib.Core.Bool.{Bool, false}
+use mathlib.Core.Bool.{Bool, true, false}
 use mathlib.Core.List.{List}
 use Prim.Native.Nat.{ℕ, _+_, _≤_, _<_}
 use native.Mathlib.Omega.{arith}
@@ -10,9 +10,9 @@ use lib.Seq.{getD-set-other}
 use borrow.Author.Tests.{eqb-false, ne-eqb}
 use Rattle.book.specs.Types.{Side, Offer, ReceiptState, Lots, Account, Receipt, Match, Book}
 use Rattle.book.specs.Counting.{one-if}
-use Rattle.book.specs.Rows.{blank-account, blank-receipt, blank-match, is-frozen-for, is-frozen, with-position}
+use Rattle.book.specs.Rows.{blank-account, blank-receipt, blank-match, is-frozen-for, is-frozen, has-frozen, with-position}
 use Rattle.book.specs.Tables.{put-account, with-receipts, frozen-at}
-use Rattle.book.specs.laws.Counting.{by-eq, rows-set, rows-add, tally-sum, tally-none, sum-set, sum-add, impossible}
+use Rattle.book.specs.laws.Counting.{by-eq, at-set, rows-set, rows-add, tally-sum, tally-none, sum-set, sum-add, impossible}
 use Rattle.book.specs.laws.Sound.{SoundLots, SoundAccount, SoundOffer, SoundMatch, SoundReceipt, frozen-of, AccountTable, MatchTable, ReceiptTable, Core, SoundTables}
 
 -- ---- accounts
@@ -62,12 +62,12 @@ receipts-more h t = record { size = t .size; few = t .few; none = t .none; rows 
 
 -- ---- frozen receipts, counted
 
-frozen-add : (l : List Receipt) (n : ℕ) (r : Receipt) (j : ℕ) → n < length l → frozen-of (n + 1) (set l n r) j ≡ frozen-of n l j + one-if (is-frozen-for j (r .state))
+pub frozen-add : (l : List Receipt) (n : ℕ) (r : Receipt) (j : ℕ) → n < length l → frozen-of (n + 1) (set l n r) j ≡ frozen-of n l j + one-if (is-frozen-for j (r .state))
 unfolding frozen-at
 frozen-add l n r j h =
     omega (arith, tally-sum (frozen-at (set l n r) j) (n + 1) 0, tally-sum (frozen-at l j) n 0, sum-add (λ (x : Receipt). one-if (is-frozen-for j (x .state))) l n r blank-receipt h)
 
-frozen-set : (l : List Receipt) (n k : ℕ) (r : Receipt) (j : ℕ) → k < n → k < length l
+pub frozen-set : (l : List Receipt) (n k : ℕ) (r : Receipt) (j : ℕ) → k < n → k < length l
     → frozen-of n (set l k r) j + one-if (is-frozen-for j (getD l k blank-receipt .state)) ≡ frozen-of n l j + one-if (is-frozen-for j (r .state))
 unfolding frozen-at
 frozen-set l n k r j h s =
@@ -133,10 +133,26 @@ receipts-rematched {n} {m} {count} {ms} {board} {l} m′ j c a f z t = record {
   rows = λ i h. let r = t .rows i h in record {
     owner-there = r .owner-there;
     frozen-there = λ k e. omega (arith, r .frozen-there k e);
-    frozen-paired = λ k e. rw (getD-set-other ms j k c blank-match (frozen-not j k (z i h) e)) (r .frozen-paired k e);
+    frozen-stage = λ k e. rw (getD-set-other ms j k c blank-match (frozen-not j k (z i h) e)) (r .frozen-stage k e);
     frozen-seller = λ k e. rw (getD-set-other ms j k c blank-match (frozen-not j k (z i h) e)) (r .frozen-seller k e);
   };
   no-more = λ k h. by-eq k j (λ e. rw e (omega (arith, frozen-none count l j z))) (λ e. rw (getD-set-other ms j k c blank-match e) (t .no-more k (f k h e)));
+}
+
+-- match j is put at a stage at which receipts are frozen for it, with its seller and its units
+pub receipts-restaged : {n m count : ℕ} {ms : List Match} {board : Bool} {l : List Receipt} (j : ℕ) (c : Match) → has-frozen (c .stage) ≡ true → c .seller ≡ getD ms j blank-match .seller → c .units ≡ getD ms j blank-match .units
+    → ReceiptTable n m ms board count l → ReceiptTable n m (set ms j c) board count l
+receipts-restaged {n} {m} {count} {ms} {board} {l} j c s o u t = record {
+  size = t .size;
+  few = t .few;
+  none = t .none;
+  rows = λ i h. let r = t .rows i h in record {
+    owner-there = r .owner-there;
+    frozen-there = r .frozen-there;
+    frozen-stage = λ k e. at-set (λ (x : Match). has-frozen (x .stage) ≡ true) ms j k c blank-match (λ q. s) (r .frozen-stage k e);
+    frozen-seller = λ k e. at-set (λ (x : Match). getD l i blank-receipt .owner ≡ x .seller) ms j k c blank-match (λ q. r .frozen-seller k e ∙ ap (λ (a : ℕ). getD ms a blank-match .seller) q ∙ sym o) (r .frozen-seller k e);
+  };
+  no-more = λ k h. at-set (λ (x : Match). frozen-of count l k ≤ x .units) ms j k c blank-match (λ q. omega (arith, t .no-more k h, u, ap (λ (a : ℕ). getD ms a blank-match .units) q)) (t .no-more k h);
 }
 
 pub tables-receipts : {b : Book} (l : List Receipt) (n : ℕ) → ReceiptTable (b .«account_count») (b .«match_count») (b .matches) (b .board) n l → SoundTables b → SoundTables (with-receipts b l n)

@@ -25,7 +25,7 @@ use Rattle.book.specs.laws.Counting.{by-pick, sum-same, sum-set, sum-add
 use Rattle.book.specs.laws.Answered.{MayTrade, Answered, answered, of-opening}
 use Rattle.book.specs.laws.Sound.{SoundAccount, Core, SoundTables}
 use Rattle.book.specs.laws.Posting.{Posted}
-use Rattle.book.specs.laws.Settling.{Settlement, settlement-sum, settle-settles, measure-settles, invoice-settles, terminate-settles}
+use Rattle.book.specs.laws.Settling.{Settlement, settlement-sum, pay-settles, measure-settles, invoice-settles, terminate-settles, hand-over-settles}
 use Rattle.book.specs.laws.Calls.{cell, opening-tables, deposit-posted, withdraw-posted}
 use Rattle.book.specs.laws.Pairing.{Pairable, pair-core, off-units, paired-sum}
 use Rattle.book.specs.laws.Closing.{passes-keep, lapsed}
@@ -168,10 +168,11 @@ even {b} (Answered.retracts {seller = n} g) r = even-put b n _ refl refl
 even {b} (Answered.takes {buyer = m} {seller = n} g) r = even-then (even-pair b any-class 2 m n (offer-units (account-at b n .offer)) (omega arith) (r .core) (take-pairable r g)) (even-put _ n _ refl refl)
 even {b} (Answered.days {p = p} g) r = even-frame b (b .receipts) (b .«receipt_count») p (b .day + 1) (b .«open»)
 even {b} (Answered.closes g) r = even-close b r (g .is-open)
-even {b} (Answered.settles {j = j} g) r = even-settled r (settle-settles b r j (g .there) (g .paired))
+even {b} (Answered.pays {j = j} g) r = even-settled r (pay-settles b r j (g .there) (g .paired))
 even {b} (Answered.measures {j = j} {w = w} {q = q} {m = m} {s = s} {f = f} {a = a} g) r = even-settled r (measure-settles b r j (g .there) (g .prepaid) w q m s f a)
 even {b} (Answered.invoices {j = j} g) r = even-settled r (invoice-settles b r j (g .there) (g .in-hold))
 even {b} (Answered.terminates {j = j} {party = party} g) r = even-settled r (terminate-settles b r j (g .there) (g .prepaid) party)
+even {b} (Answered.hands-over {j = j} g) r = even-settled r (hand-over-settles b r j (g .there) (g .funded))
 
 -- ---- lists
 

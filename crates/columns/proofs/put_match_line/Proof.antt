@@ -1,7 +1,7 @@
 -- `put_match_line` meets its contract: one writing after another. Assumes nothing.
 use native.Mathlib.Omega.{arith}
 use borrow.Author.Needs.{needs}
-use Rattle.book.specs.laws.Bound.{stage-few}
+use Rattle.text.proofs.Columns.{stage-few}
 use Rattle.text.proofs.Printing.{put-then}
 use Rattle.columns.proofs.put_match_line.Statement.{statement}
 use Rattle.columns.proofs.put_match_line.Tie as tie

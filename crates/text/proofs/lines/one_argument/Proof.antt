@@ -12,4 +12,5 @@ one-argument-spec =
     (λ c. search (needs, eq-eqb, ne-eqb))
     (λ c. search (needs, eq-eqb, ne-eqb))
     (λ c. search (needs, eq-eqb, ne-eqb))
+    (λ c. search (needs, eq-eqb, ne-eqb))
     (λ c. search (needs, ne-eqb)))
