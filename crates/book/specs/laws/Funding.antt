@@ -28,12 +28,9 @@ use Rattle.book.specs.laws.Closing.{passes-keep}
 use Rattle.book.specs.laws.Taking.{take-pairable}
 use Rattle.book.specs.laws.Steps.{reached-tables}
 
--- as many receipts as its units are frozen for a match, where it is funded
-abbrev Kept : Book → ℕ → Type 0
-Kept b j = j < b .«match_count» → match-at b j .stage ≡ Stage.Funded → match-at b j .units ≤ frozen-receipts b j
-
+-- as many receipts as its units are frozen for each match that is funded
 abbrev Full : Book → Type 0
-Full b = (j : ℕ) → Kept b j
+Full b = (j : ℕ) → j < b .«match_count» → match-at b j .stage ≡ Stage.Funded → match-at b j .units ≤ frozen-receipts b j
 
 -- ---- a settlement
 

@@ -225,7 +225,7 @@ faultless-heat b j e q h = go (account-at b (match-at b j .seller) .fit) (rw (q,
     go true f = impossible (cc)
     go false f = impossible (cc)
 
--- in a receipts book as many as the units are frozen for it
+-- in a receipts book a seller without fault has as many receipts frozen as the match has units
 faultless-frozen : (b : Book) (j : ℕ) → seller-fault b j ≡ Fault.Faultless → b .board ≡ false → match-at b j .units ≤ frozen-of (b .«receipt_count») (b .receipts) j
 unfolding seller-fault frozen-receipts
 faultless-frozen b j e q = go (account-at b (match-at b j .seller) .fit) (ltb (frozen-of (b .«receipt_count») (b .receipts) j) (match-at b j .units)) refl (rw q at e)
