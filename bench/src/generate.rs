@@ -91,7 +91,7 @@ fn call(r: &mut Random, board: bool, accounts: u64, late: u64) -> Vec<u64> {
             94 => 17,
             95 => 14,
             96 => 15,
-            97 => 16,
+            97 => if board == r.chance(90) { 16 } else { 18 },
             98 => if late > 40 { 12 } else { 4 },
             _ => if board { 5 } else { 7 },
         },
@@ -102,8 +102,8 @@ fn call(r: &mut Random, board: bool, accounts: u64, late: u64) -> Vec<u64> {
             50..=51 => 17,
             52..=59 => if board { 13 } else { 17 },
             60..=69 => if board { 14 } else { 17 },
-            70..=84 => 15,
-            85..=89 => 16,
+            70..=82 => 15,
+            83..=89 => if board == r.chance(90) { 16 } else { 18 },
             90..=93 => 2,
             94..=95 => 3,
             96..=97 => 6,
@@ -124,6 +124,7 @@ fn call(r: &mut Random, board: bool, accounts: u64, late: u64) -> Vec<u64> {
         11 => c.push(price(r)),
         12 => {}
         13 | 15 | 17 => c.push(j),
+        18 => c.extend([j, k, if r.chance(30) { 0 } else { amount(r) }]),
         14 => c.extend([
             j,
             if r.chance(50) { r.below(100_000_000) } else { near(r, &[19_500_000, 20_000_000, 20_500_000, 40_000_000_000]) },
@@ -189,7 +190,8 @@ fn short_call(r: &mut Random, board: bool, accounts: u64, late: u64) -> Vec<u64>
         (78..=87, true) | (0..=14, false) => vec![11, small],
         (88..=94, true) | (15..=44, false) => vec![13, j],
         (45..=64, false) => vec![17, j],
-        (65..=74, false) => vec![15, j],
+        (65..=69, false) => vec![18, j, k, if r.chance(30) { 0 } else { small }],
+        (70..=74, false) => vec![15, j],
         (97..=99, false) => vec![12],
         _ => vec![15, j],
     }

@@ -1,4 +1,4 @@
-//! The machine: a book and its seventeen calls, changed in place.
+//! The machine: a book and its eighteen calls, changed in place.
 
 use std::cmp::Ordering;
 
@@ -24,6 +24,7 @@ pub enum Stage {
     Closed,
     Ended,
     Funded,
+    Awaiting,
 }
 
 /// An opening day with its units (document 02, Job 5).
@@ -242,7 +243,8 @@ impl Book {
             14 => self.measure(a[0], a[1], a[2], a[3], a[4], a[5], a[6]),
             15 => self.invoice(a[0]),
             16 => self.terminate(a[0], a[1]),
-            _ => self.hand_over(a[0]),
+            17 => self.hand_over(a[0]),
+            _ => self.auction(a[0], a[1], a[2]),
         }
     }
 
@@ -553,7 +555,12 @@ impl Book {
         }
         self.charge(m.buyer, v);
         self.matches[j].held = v;
-        self.matches[j].stage = if self.board { Stage::Prepaid } else { Stage::Funded };
+        let ordinary = self.receipts.iter().any(|r| r.state == State::Frozen(j) && !r.bonded);
+        self.matches[j].stage = match (self.board, self.accounts[m.buyer].overseas && ordinary) {
+            (true, _) => Stage::Prepaid,
+            (false, true) => Stage::Awaiting,
+            (false, false) => Stage::Funded,
+        };
         Ok(0)
     }
 
@@ -606,14 +613,45 @@ impl Book {
         let j = self.match_number(j)?;
         no(self.matches[j].stage != Stage::Funded, 22)?;
         let v = self.value(j);
-        let (buyer, seller) = (self.matches[j].buyer, self.matches[j].seller);
+        self.deliver(j, v, self.matches[j].buyer);
+        Ok(0)
+    }
+
+    /// The seller gets 80% of V, the rest is held, and the receipts are `taker`'s, free.
+    fn deliver(&mut self, j: usize, v: u128, taker: usize) {
         let part = percent_down(80, v);
-        self.pay(seller, part);
+        self.pay(self.matches[j].seller, part);
         self.matches[j].held = v - part;
         self.matches[j].stage = Stage::Held;
         for r in self.receipts.iter_mut().filter(|r| r.state == State::Frozen(j)) {
             r.state = State::Free;
-            r.owner = buyer;
+            r.owner = taker;
+        }
+    }
+
+    fn auction(&mut self, j: u64, winner: u64, proceeds: u64) -> Answer {
+        let winner = self.account(winner)?;
+        no(proceeds > 1_000_000_000_000_000, 8)?;
+        let j = self.match_number(j)?;
+        no(self.matches[j].stage != Stage::Awaiting, 22)?;
+        no(proceeds > 0 && self.accounts[winner].overseas, 29)?;
+        no(proceeds > 0 && self.accounts[winner].cash < proceeds as i128, 30)?;
+        let v = self.value(j);
+        let (buyer, seller) = (self.matches[j].buyer, self.matches[j].seller);
+        if proceeds > 0 {
+            self.charge(winner, proceeds as u128);
+            self.pay(buyer, proceeds as u128);
+            self.deliver(j, v, winner);
+        } else {
+            let part = percent_down(20, v);
+            self.pay(buyer, v);
+            self.charge(buyer, part);
+            self.pay(seller, part);
+            self.matches[j].held = 0;
+            self.matches[j].stage = Stage::Ended;
+            for r in self.receipts.iter_mut().filter(|r| r.state == State::Frozen(j)) {
+                r.state = State::Free;
+            }
         }
         Ok(0)
     }

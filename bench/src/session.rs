@@ -6,7 +6,7 @@ const LARGEST: usize = 65_536;
 
 /// How many arguments each call has, by number; `None` for no call.
 fn arguments(number: u64) -> Option<usize> {
-    const COUNTS: [usize; 18] = [4, 2, 2, 2, 3, 2, 2, 2, 2, 1, 2, 1, 0, 1, 7, 1, 2, 1];
+    const COUNTS: [usize; 19] = [4, 2, 2, 2, 3, 2, 2, 2, 2, 1, 2, 1, 0, 1, 7, 1, 2, 1, 3];
     COUNTS.get(usize::try_from(number).ok()?).copied()
 }
 
@@ -45,6 +45,7 @@ fn stage(s: Stage) -> u64 {
         Stage::Closed => 3,
         Stage::Ended => 4,
         Stage::Funded => 5,
+        Stage::Awaiting => 6,
     }
 }
 

@@ -1,11 +1,11 @@
--- The seventeen calls as one step of the machine. Assumes nothing.
+-- The eighteen calls as one step of the machine. Assumes nothing.
 use Rattle.book.specs.Types.{Book, Outcome, Call}
 use Rattle.book.specs.Opening.{next-day}
 use Rattle.book.specs.Accounts.{join, deposit, withdraw, trade}
 use Rattle.book.specs.Receipts.{lodge, strike}
 use Rattle.book.specs.Offers.{declare, offer, retract, take-offer}
 use Rattle.book.specs.Closing.{close}
-use Rattle.book.specs.Settlement.{pay-match, measure, invoice, terminate, hand-over}
+use Rattle.book.specs.Settlement.{pay-match, measure, invoice, terminate, hand-over, auction}
 
 -- the answer to a call, and the book that it leaves
 unfoldable pub step : Book → Call → Outcome
@@ -26,3 +26,4 @@ step b (Call.Measure j w q m s f a) = measure b j w q m s f a
 step b (Call.Invoice j) = invoice b j
 step b (Call.Terminate j party) = terminate b j party
 step b (Call.HandOver j) = hand-over b j
+step b (Call.Auction j winner x) = auction b j winner x

@@ -20,7 +20,7 @@ state-number ReceiptState.Free = 0
 state-number (ReceiptState.Frozen j) = 1
 state-number ReceiptState.Struck = 2
 
--- "a stage: 0 paired, 1 prepaid, 2 held, 3 closed, 4 ended"; "the new stage 5, funded"
+-- "a stage: 0 paired, 1 prepaid, 2 held, 3 closed, 4 ended"; "the new stage 5, funded"; "stage 6, awaiting auction"
 abbrev pub stage-number : Stage → ℕ
 stage-number Stage.Paired = 0
 stage-number Stage.Prepaid = 1
@@ -28,8 +28,9 @@ stage-number Stage.Held = 2
 stage-number Stage.Closed = 3
 stage-number Stage.Ended = 4
 stage-number Stage.Funded = 5
+stage-number Stage.Awaiting = 6
 
--- "Calls, by number"; "Pay (call 13)", "Hand over (call 17)"
+-- "Calls, by number"; "Pay (call 13)", "Hand over (call 17)"; "Call 18 names match, winner and proceeds"
 abbrev pub call-number : Call → ℕ
 call-number (Call.Join residence fitness) = 1
 call-number (Call.Deposit k x) = 2
@@ -48,3 +49,4 @@ call-number (Call.Measure j w q m s f a) = 14
 call-number (Call.Invoice j) = 15
 call-number (Call.Terminate j party) = 16
 call-number (Call.HandOver j) = 17
+call-number (Call.Auction j winner x) = 18

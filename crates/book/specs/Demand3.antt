@@ -95,13 +95,14 @@ pub record FirstPass (b e : Book) : Type 0 where
 
 -- ---- receipts
 
--- "frozen for exactly one match, .., and belongs to that match's seller"; "a frozen receipt may now be for a paired or a funded match"
+-- "frozen for exactly one match, .., and belongs to that match's seller"; "a frozen receipt may now be for a paired or a funded match";
+-- "receipts stay frozen while a match awaits auction"
 pub record FrozenForOne (b : Book) (i : ℕ) : Type 0 where
   pub number : ℕ
   pub there : number < b .«match_count»
   pub frozen : receipt-at b i .state ≡ ReceiptState.Frozen number
   pub only : (j : ℕ) → receipt-at b i .state ≡ ReceiptState.Frozen j → j ≡ number
-  pub paired-or-funded : has-frozen (match-at b number .stage) ≡ true
+  pub paired-funded-or-awaiting : has-frozen (match-at b number .stage) ≡ true
   pub sellers : receipt-at b i .owner ≡ match-at b number .seller
 
 -- ---- the demand
@@ -116,7 +117,8 @@ pub record Holds (b : Book) (cs : List Call) (e : Book) : Type 0 where
   pub balanced : units-long e ≡ units-short e
   -- "Each account's cash is the sum of its entries in the list's accepted calls."
   pub entered : (k : ℕ) → k < e .«account_count» → account-at e k .cash ≡ account-entries k b cs
-  -- "Each frozen receipt is frozen for exactly one match, .., and belongs to that match's seller;"; "a frozen receipt may now be for a paired or a funded match"
+  -- "Each frozen receipt is frozen for exactly one match, .., and belongs to that match's seller;"; "a frozen receipt may now be for a paired or a funded match";
+  -- "receipts stay frozen while a match awaits auction"
   pub frozen : (i j : ℕ) → i < e .«receipt_count» → receipt-at e i .state ≡ ReceiptState.Frozen j → FrozenForOne e i
   -- "no match has more of them than units."
   pub no-more : (j : ℕ) → j < e .«match_count» → frozen-receipts e j ≤ match-at e j .units
@@ -124,6 +126,7 @@ pub record Holds (b : Book) (cs : List Call) (e : Book) : Type 0 where
   pub closed : (front back : List Call) → cs ≡ front ++ Call.Close ∷ back → accepts (after b front) Call.Close ≡ true → FirstPass (after b front) (step (after b front) Call.Close .book)
 
 -- "For every list of the sixteen calls (Join to Terminate, any arguments, refused ones and defaults included) from one freshly opened book, this
--- holds after it, in the words of document 01."; "Lists and sessions may hold call 17". "The list starts from the book of any accepted opening, of either kind."
+-- holds after it, in the words of document 01."; "Lists and sessions may hold call 17".
+-- "A list of calls or a session may now hold this one", call 18. "The list starts from the book of any accepted opening, of either kind."
 abbrev pub Demand-3 : Type 0
 Demand-3 = (kind t r p : ℕ) → is-accepted (opening kind t r p .answer) ≡ true → (cs : List Call) → Holds (opening kind t r p .book) cs (after (opening kind t r p .book) cs)

@@ -18,5 +18,6 @@ pub mod Lists
 pub mod Ages
 pub mod Demand3
 pub mod Agreement
-pub mod Funded
+pub mod PaidFor
+pub mod Auctions
 pub mod laws

@@ -60,6 +60,7 @@ amounts (Call.Measure j w q m s f a) = no-amounts
 amounts (Call.Invoice j) = no-amounts
 amounts (Call.Terminate j party) = no-amounts
 amounts (Call.HandOver j) = no-amounts
+amounts (Call.Auction j winner x) = no-amounts
 
 -- "the amounts of the list's accepted calls 2, of its accepted calls 3 and the units of its accepted calls 4"
 abbrev pub deposits-accepted : Book → List Call → ℕ

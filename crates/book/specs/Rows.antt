@@ -142,6 +142,10 @@ is-frozen-for n ReceiptState.Free = false
 is-frozen-for n (ReceiptState.Frozen j) = eqb j n
 is-frozen-for n ReceiptState.Struck = false
 
+-- a receipt is frozen for match j and ordinary
+abbrev pub is-ordinary-for : ℕ → Receipt → Bool
+is-ordinary-for j r = is-frozen-for j (r .state) && not (r .bonded)
+
 -- which receipts are meant: those of either class, or the bonded ones only
 abbrev pub any-class : Bool
 any-class = false
@@ -161,9 +165,9 @@ frozen-for j r = with-state r (ReceiptState.Frozen j)
 abbrev pub released : ℕ → Receipt → Receipt
 released j r = pick (is-frozen-for j (r .state)) (with-state r ReceiptState.Free) r
 
--- a receipt that is frozen for match j is free and the buyer's, any other as it was
+-- a receipt that is frozen for match j is free and another's, any other as it was
 abbrev pub passed : ℕ → ℕ → Receipt → Receipt
-passed j buyer r = pick (is-frozen-for j (r .state)) (record { owner = buyer; bonded = r .bonded; state = ReceiptState.Free }) r
+passed j taker r = pick (is-frozen-for j (r .state)) (record { owner = taker; bonded = r .bonded; state = ReceiptState.Free }) r
 
 -- ---- a match
 
@@ -178,6 +182,7 @@ is-paired Stage.Held = false
 is-paired Stage.Closed = false
 is-paired Stage.Ended = false
 is-paired Stage.Funded = false
+is-paired Stage.Awaiting = false
 
 abbrev pub is-prepaid : Stage → Bool
 is-prepaid Stage.Paired = false
@@ -186,6 +191,7 @@ is-prepaid Stage.Held = false
 is-prepaid Stage.Closed = false
 is-prepaid Stage.Ended = false
 is-prepaid Stage.Funded = false
+is-prepaid Stage.Awaiting = false
 
 abbrev pub is-held : Stage → Bool
 is-held Stage.Paired = false
@@ -194,6 +200,7 @@ is-held Stage.Held = true
 is-held Stage.Closed = false
 is-held Stage.Ended = false
 is-held Stage.Funded = false
+is-held Stage.Awaiting = false
 
 abbrev pub is-funded : Stage → Bool
 is-funded Stage.Paired = false
@@ -202,7 +209,21 @@ is-funded Stage.Held = false
 is-funded Stage.Closed = false
 is-funded Stage.Ended = false
 is-funded Stage.Funded = true
+is-funded Stage.Awaiting = false
 
--- "a frozen receipt may now be for a paired or a funded match"
+abbrev pub is-awaiting : Stage → Bool
+is-awaiting Stage.Paired = false
+is-awaiting Stage.Prepaid = false
+is-awaiting Stage.Held = false
+is-awaiting Stage.Closed = false
+is-awaiting Stage.Ended = false
+is-awaiting Stage.Funded = false
+is-awaiting Stage.Awaiting = true
+
+-- V is held, and the receipts are still the seller's
+abbrev pub is-paid-for : Stage → Bool
+is-paid-for s = is-funded s || is-awaiting s
+
+-- "a frozen receipt may now be for a paired or a funded match"; "receipts stay frozen while a match awaits auction"
 abbrev pub has-frozen : Stage → Bool
-has-frozen s = is-paired s || is-funded s
+has-frozen s = is-paired s || is-funded s || is-awaiting s

@@ -1,5 +1,5 @@
--- Calls 13 to 17: Pay, Measure, Invoice, Terminate, Hand over. Assumes nothing.
-use mathlib.Core.Bool.{Bool, not}
+-- Calls 13 to 18: Pay, Measure, Invoice, Terminate, Hand over, Auction. Assumes nothing.
+use mathlib.Core.Bool.{Bool, not, _&&_}
 use mathlib.Core.List.{List}
 use Prim.Native.Nat.{ℕ, _+_, _-_, _*_}
 use lib.Dec.{ltb, leb, eqb}
@@ -11,8 +11,8 @@ use Rattle.coal.specs.declared.Weighed.{Weighed}
 use Rattle.coal.specs.Coal.{percent-down, coal-price, coal-weight, amount}
 use Rattle.book.specs.Types.{Stage, Receipt, Match, Book, Outcome, Fault}
 use Rattle.book.specs.Counting.{iter}
-use Rattle.book.specs.Rows.{blank-receipt, heat-missing, heat-value, released, passed, with-held, is-paired, is-prepaid, is-held, is-funded}
-use Rattle.book.specs.Tables.{account-at, match-at, put-match, with-receipts, with-fund, pay, charge, frozen-receipts}
+use Rattle.book.specs.Rows.{blank-receipt, heat-missing, heat-value, released, passed, with-held, is-paired, is-prepaid, is-held, is-funded, is-awaiting}
+use Rattle.book.specs.Tables.{account-at, match-at, put-match, with-receipts, with-fund, pay, charge, frozen-receipts, ordinary-receipts}
 use Rattle.book.specs.Answers.{refuse-if, accept}
 
 -- "V of a match = units × price × T."
@@ -57,13 +57,13 @@ release-turn j i l = set l i (released j (getD l i blank-receipt))
 unfoldable pub free-again : Book → ℕ → Book
 free-again b j = with-receipts b (iter (b .«receipt_count») 0 (release-turn j) (b .receipts)) (b .«receipt_count»)
 
--- receipt i of a table, where it is frozen for match j, is the buyer's and free
+-- receipt i of a table, where it is frozen for match j, is another's and free
 unfoldable pub pass-turn : ℕ → ℕ → ℕ → List Receipt → List Receipt
-pass-turn j buyer i l = set l i (passed j buyer (getD l i blank-receipt))
+pass-turn j taker i l = set l i (passed j taker (getD l i blank-receipt))
 
--- "the receipts pass to the buyer, free"
+-- "the receipts pass to the buyer, free"; a winner "takes the receipts"
 unfoldable pub pass-receipts : Book → ℕ → ℕ → Book
-pass-receipts b j buyer = with-receipts b (iter (b .«receipt_count») 0 (pass-turn j buyer) (b .receipts)) (b .«receipt_count»)
+pass-receipts b j taker = with-receipts b (iter (b .«receipt_count») 0 (pass-turn j taker) (b .receipts)) (b .«receipt_count»)
 
 -- ---- the calls
 
@@ -79,9 +79,14 @@ first-part x = percent-down 80 x
 unfoldable pub into-held : Book → ℕ → Match → ℕ → Stage → Book
 into-held b j m v s = set-stage (charge b (m .buyer) v) j v s
 
+-- "a match of an overseas buyer with any ordinary receipt"
+unfoldable pub to-auction : Book → ℕ → Match → Bool
+to-auction b j m = account-at b (m .buyer) .overseas && ltb 0 (ordinary-receipts b j)
+
 -- "In a receipts book it gives the new stage 5, funded." "A board match goes from Pay to prepaid."
-abbrev pub paid-stage : Book → Stage
-paid-stage b = pick (b .board) Stage.Prepaid Stage.Funded
+-- "Pay, where it finds no fault, puts a match of an overseas buyer with any ordinary receipt in stage 6, awaiting auction, with V held."
+unfoldable pub paid-stage : Book → ℕ → Match → Stage
+paid-stage b j m = pick (b .board) Stage.Prepaid (pick (to-auction b j m) Stage.Awaiting Stage.Funded)
 
 -- "ends the match on a fault": "Then the match is ended and its receipts are free again."
 unfoldable pub fault-ended : Book → ℕ → Match → Fault → Fault → Book
@@ -89,7 +94,7 @@ fault-ended b j m x y = free-again (set-stage (punish b m x y) j 0 Stage.Ended) 
 
 -- by the buyer's fault and the seller's
 unfoldable pub paid : Book → ℕ → Match → Fault → Fault → Book
-paid b j m Fault.Faultless Fault.Faultless = into-held b j m (value b m) (paid-stage b)
+paid b j m Fault.Faultless Fault.Faultless = into-held b j m (value b m) (paid-stage b j m)
 paid b j m (Fault.Percent x) Fault.Faultless = fault-ended b j m (Fault.Percent x) Fault.Faultless
 paid b j m Fault.Faultless (Fault.Percent y) = fault-ended b j m Fault.Faultless (Fault.Percent y)
 paid b j m (Fault.Percent x) (Fault.Percent y) = fault-ended b j m (Fault.Percent x) (Fault.Percent y)
@@ -155,13 +160,41 @@ terminate b j party =
     (refuse-if (not (is-prepaid (match-at b j .stage))) 22 b
     (accept 0 (terminated b j (match-at b j) party)))))
 
--- "passes the receipts and pays the seller's 80%": "seller gets 80% of V, down, the rest is held; the receipts pass to the buyer, free; stage held."
-unfoldable pub handed : Book → ℕ → Match → ℕ → Book
-handed b j m v = pass-receipts (set-stage (pay b (m .seller) (first-part v)) j (v - first-part v) Stage.Held) j (m .buyer)
+-- "passes the receipts and pays the seller's 80%": "seller gets 80% of V, down, the rest is held"; the receipts pass to one who takes them, "free; stage held."
+unfoldable pub handed : Book → ℕ → Match → ℕ → ℕ → Book
+handed b j m v taker = pass-receipts (set-stage (pay b (m .seller) (first-part v)) j (v - first-part v) Stage.Held) j taker
 
--- "Hand over (call 17) takes a funded match"
+-- "Hand over (call 17) takes a funded match"; "the receipts pass to the buyer"
 unfoldable pub hand-over : Book → ℕ → Outcome
 hand-over b j =
     refuse-if (leb (b .«match_count») j) 21 b
     (refuse-if (not (is-funded (match-at b j .stage))) 22 b
-    (accept 0 (handed b j (match-at b j) (value b (match-at b j)))))
+    (accept 0 (handed b j (match-at b j) (value b (match-at b j)) (match-at b j .buyer))))
+
+-- "Above zero, the winner pays the proceeds to the buyer and takes the receipts, the seller gets 80% and the rest is held as before."
+unfoldable pub sold : Book → ℕ → Match → ℕ → ℕ → Book
+sold b j m winner x = handed (pay (charge b winner x) (m .buyer) x) j m (value b m) winner
+
+-- "20% of V, down"
+abbrev pub no-bid-part : ℕ → ℕ
+no-bid-part v = percent-down 20 v
+
+-- "Proceeds of zero mean nobody bid: the buyer gets V back, pays the seller 20% of V, down, the match is ended and the receipts are freed"
+unfoldable pub unsold : Book → ℕ → Match → ℕ → Book
+unsold b j m v = free-again (set-stage (pay (charge (pay b (m .buyer) v) (m .buyer) (no-bid-part v)) (m .seller) (no-bid-part v)) j 0 Stage.Ended) j
+
+-- by the proceeds
+unfoldable pub auctioned : Book → ℕ → Match → ℕ → ℕ → Book
+auctioned b j m winner x = pick (eqb x 0) (unsold b j m (value b m)) (sold b j m winner x)
+
+-- "Call 18 names match, winner and proceeds." "the winner's number must still name an account". "Proceeds outside 0..10^15 are refused as 8."
+-- "29 when the winner is overseas and proceeds are above zero; 30 when proceeds are above zero and its cash is below them"
+unfoldable pub auction : Book → (j winner x : ℕ) → Outcome
+auction b j winner x =
+    refuse-if (leb (b .«account_count») winner) 6 b
+    (refuse-if (ltb 1_000_000_000_000_000 x) 8 b
+    (refuse-if (leb (b .«match_count») j) 21 b
+    (refuse-if (not (is-awaiting (match-at b j .stage))) 22 b
+    (refuse-if (ltb 0 x && account-at b winner .overseas) 29 b
+    (refuse-if (ltb 0 x && ltZ (account-at b winner .cash) (pos x)) 30 b
+    (accept 0 (auctioned b j (match-at b j) winner x)))))))

@@ -5,7 +5,7 @@ use Prim.Native.Nat.{ℕ, _+_}
 use lib.ListN.{getD, set}
 use Rattle.book.specs.Types.{Account, Receipt, Match, Book}
 use Rattle.book.specs.Counting.{tally}
-use Rattle.book.specs.Rows.{blank-account, blank-receipt, blank-match, credited, debited, is-frozen-for, is-free-of}
+use Rattle.book.specs.Rows.{blank-account, blank-receipt, blank-match, credited, debited, is-frozen-for, is-ordinary-for, is-free-of}
 
 -- ---- lookups
 
@@ -87,3 +87,11 @@ frozen-at l j i = is-frozen-for j (getD l i blank-receipt .state)
 -- how many receipts are frozen for match j
 unfoldable pub frozen-receipts : Book → ℕ → ℕ
 frozen-receipts b j = tally (b .«receipt_count») 0 (frozen-at (b .receipts) j)
+
+-- receipt i of a table is frozen for match j and ordinary
+unfoldable pub ordinary-at : List Receipt → ℕ → ℕ → Bool
+ordinary-at l j i = is-ordinary-for j (getD l i blank-receipt)
+
+-- how many ordinary receipts are frozen for match j
+unfoldable pub ordinary-receipts : Book → ℕ → ℕ
+ordinary-receipts b j = tally (b .«receipt_count») 0 (ordinary-at (b .receipts) j)

@@ -26,4 +26,5 @@ pub mod Given
 pub mod FirstPass
 pub mod Demand
 pub mod Agreeing
-pub mod Funding
+pub mod PaidFor
+pub mod Auctions

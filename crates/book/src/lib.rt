@@ -28,7 +28,7 @@ pub enum ReceiptState {
     Struck,
 }
 
-// "a stage: 0 paired, 1 prepaid, 2 held, 3 closed, 4 ended"; "the new stage 5, funded"
+// "a stage: 0 paired, 1 prepaid, 2 held, 3 closed, 4 ended"; "the new stage 5, funded"; "stage 6, awaiting auction"
 pub enum Stage {
     Paired,
     Prepaid,
@@ -36,6 +36,7 @@ pub enum Stage {
     Closed,
     Ended,
     Funded,
+    Awaiting,
 }
 
 // A lot of a position: an opening day with its units.
@@ -113,7 +114,7 @@ pub struct Outcome {
     pub book: Book,
 }
 
-// The seventeen calls, in the order of their numbers.
+// The eighteen calls, in the order of their numbers.
 pub enum Call {
     Join {
         residence: u64,
@@ -180,6 +181,11 @@ pub enum Call {
     },
     HandOver {
         number: u64,
+    },
+    Auction {
+        number: u64,
+        winner: u64,
+        proceeds: u64,
     },
 }
 

@@ -41,5 +41,10 @@ pub fn apply(book: Book, call: Call) -> Outcome
         Call::Invoice { number } => settlement::invoice(book, number),
         Call::Terminate { number, party } => settlement::terminate(book, number, party),
         Call::HandOver { number } => settlement::hand_over(book, number),
+        Call::Auction {
+            number,
+            winner,
+            proceeds,
+        } => settlement::auction(book, number, winner, proceeds),
     }
 }

@@ -1,5 +1,6 @@
 pub mod Script
 pub mod Worked
+pub mod Auctions
 pub mod Accounts
 pub mod Warehouse
 pub mod Offers

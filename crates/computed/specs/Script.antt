@@ -17,7 +17,7 @@ use Rattle.book.specs.Offers as offers
 use Rattle.book.specs.Closing as closing
 use Rattle.book.specs.Settlement as settlement
 use Rattle.book.specs.Calls.{step}
-use Rattle.book.specs.Entries.{penalty-entries, pay-entries, measure-entries, terminate-entries, hand-over-entries, entries}
+use Rattle.book.specs.Entries.{penalty-entries, pay-entries, measure-entries, terminate-entries, hand-over-entries, auction-entries, entries}
 use Rattle.book.specs.Lists.{after, sum-accepted, amounts, deposits-accepted, withdrawals-accepted, units-traded, entry-sum, account-entries}
 use Rattle.book.specs.Demand3.{gave, gave-out, overseas-units-open, bonded-units-offered, total-cash, total-held, units-in-matches, units-long, units-short}
 
@@ -103,6 +103,7 @@ unfolding
     closing.equal-seller closing.second-turn closing.second-pass closing.third-pass closing.all-passes closing.lapse-turn closing.lapse-offers closing.close
     settlement.value settlement.seller-fault settlement.buyer-fault settlement.penalty settlement.punish settlement.release-turn settlement.free-again
     settlement.pass-turn settlement.pass-receipts settlement.into-held settlement.fault-ended settlement.paid settlement.pay-match settlement.handed settlement.hand-over
+    settlement.to-auction settlement.paid-stage settlement.sold settlement.unsold settlement.auctioned settlement.auction tables.ordinary-at tables.ordinary-receipts
     settlement.amount-due settlement.measured settlement.measure settlement.invoice settlement.terminated settlement.terminate step book-of
 play kind t r p ls = answered (book-of kind t r p) (calls ls)
 
@@ -131,7 +132,7 @@ pub record Sums : Type 0 where
   pub entered : List ℤ
 
 unfoldable pub sums-after : ℕ → ℕ → ℕ → ℕ → List Line → Sums
-unfolding play after sum-accepted amounts penalty-entries pay-entries measure-entries terminate-entries hand-over-entries entries entry-sum account-entries total-cash total-held units-in-matches units-long units-short
+unfolding play after sum-accepted amounts penalty-entries pay-entries measure-entries terminate-entries hand-over-entries auction-entries entries entry-sum account-entries total-cash total-held units-in-matches units-long units-short
 sums-after kind t r p ls =
     let b = book-of kind t r p in
     let cs = calls ls in

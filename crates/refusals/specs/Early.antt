@@ -1,4 +1,4 @@
--- Refusals of nine calls by the book's numbers and the rows that the call names. Assumes nothing.
+-- Refusals of ten calls by the book's numbers and the rows that the call names. Assumes nothing.
 use mathlib.Core.Path.{_≡_}
 use Prim.Native.Nat.{ℕ}
 use Rattle.book.specs.declared.Call.{Call}
@@ -14,7 +14,11 @@ of-match j = record { pair = j; buyer = 0; seller = 0 }
 abbrev pub of-parties : ℕ → ℕ → Named
 of-parties k l = record { pair = 0; buyer = k; seller = l }
 
--- the rows that a call names whose refusal shows from them: a match, or a buyer and a seller; 0 for what it does not name
+-- the winner of an auction buys what its match has
+abbrev pub of-bid : ℕ → ℕ → Named
+of-bid j k = record { pair = j; buyer = k; seller = 0 }
+
+-- the rows that a call names whose refusal shows from them: a match, a buyer and a seller, or a match and its winner; 0 for what it does not name
 unfoldable pub rows-named : Call → Named
 rows-named (Call.Join a b) = of-match 0
 rows-named (Call.Deposit a b) = of-match 0
@@ -33,6 +37,7 @@ rows-named (Call.Measure a b c d e f g) = of-match a
 rows-named (Call.Invoice a) = of-match a
 rows-named (Call.Terminate a b) = of-match a
 rows-named (Call.HandOver a) = of-match a
+rows-named (Call.Auction a b c) = of-bid a b
 
 -- the number with which Trade, Offer, Take, Close or a call of settlement is refused; 0 where it is accepted, and for every other call
 unfoldable pub early : Book → Call → ℕ
@@ -53,6 +58,7 @@ early x (Call.Measure a b c d e f g) = refusal-of (step x (Call.Measure a b c d 
 early x (Call.Invoice a) = refusal-of (step x (Call.Invoice a) .answer)
 early x (Call.Terminate a b) = refusal-of (step x (Call.Terminate a b) .answer)
 early x (Call.HandOver a) = refusal-of (step x (Call.HandOver a) .answer)
+early x (Call.Auction a b c) = refusal-of (step x (Call.Auction a b c) .answer)
 
 -- "A refusal is one number; the book is unchanged.": a call that is refused so
 pub early-is : (x : Book) (c : Call) {n : ℕ} → n ≡ early x c → (n ≡ 0 → ⊥) → refuse n x ≡ step x c
@@ -74,3 +80,4 @@ early-is x (Call.Measure a b c d e f g) q h = refused-is x (Call.Measure a b c d
 early-is x (Call.Invoice a) q h = refused-is x (Call.Invoice a) q h
 early-is x (Call.Terminate a b) q h = refused-is x (Call.Terminate a b) q h
 early-is x (Call.HandOver a) q h = refused-is x (Call.HandOver a) q h
+early-is x (Call.Auction a b c) q h = refused-is x (Call.Auction a b c) q h

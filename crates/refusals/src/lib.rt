@@ -1,15 +1,15 @@
-// Refusals of nine calls by the book's numbers and the rows that the call names, so that no table is copied for them.
+// Refusals of ten calls by the book's numbers and the rows that the call names, so that no table is copied for them.
 ghost use mathlib.Core.Path.{_≡_};
 ghost use Rattle.book.specs.Tables.{account-at, match-at};
 ghost use Rattle.book.specs.Lists.{Reached};
 ghost use Rattle.rows.specs.Places.{place};
-ghost use Rattle.refusals.specs.Early.{of-match, of-parties, rows-named, early};
+ghost use Rattle.refusals.specs.Early.{of-match, of-parties, of-bid, rows-named, early};
 use book::Account;
 use book::Book;
 use book::Call;
 use book::Match;
 
-// The rows that a call names: a match, or a buyer and a seller.
+// The rows that a call names: a match, a buyer and a seller, or a match and its winner as a buyer.
 pub struct Named {
     pub pair: u64,
     pub buyer: u64,
@@ -38,6 +38,17 @@ fn of_parties(buyer: u64, seller: u64) -> Named
     }
 }
 
+// The match of Auction, and its winner, who buys what the match has.
+fn of_bid(number: u64, winner: u64) -> Named
+    ensures { λ r. ⌜ r ≡ of-bid number winner ⌝ }
+{
+    Named {
+        pair: number,
+        buyer: winner,
+        seller: 0,
+    }
+}
+
 // The rows that a call names whose refusal shows from them; 0 for what it does not name.
 pub fn rows_named(call: Call) -> Named
     ensures { λ r. ⌜ r ≡ rows-named call ⌝ }
@@ -61,6 +72,7 @@ pub fn rows_named(call: Call) -> Named
         Call::Invoice { number } => of_match(number),
         Call::Terminate { number, .. } => of_match(number),
         Call::HandOver { number } => of_match(number),
+        Call::Auction { number, winner, .. } => of_bid(number, winner),
     }
 }
 
@@ -107,5 +119,10 @@ pub fn early(book: Book, call: Call, pair: Match, bought: Account, sold: Account
             party,
         ),
         Call::HandOver { number } => settlement::hand_over_refusal(book, pair, number),
+        Call::Auction {
+            number,
+            winner,
+            proceeds,
+        } => settlement::auction_refusal(book, pair, bought, number, winner, proceeds),
     }
 }

@@ -9,7 +9,7 @@ ghost use Rattle.book.specs.declared.Offer.{Offer};
 ghost use Rattle.book.specs.declared.ReceiptState.{ReceiptState};
 ghost use Rattle.book.specs.declared.Stage.{Stage};
 ghost use Rattle.book.specs.Counting.{one-if};
-ghost use Rattle.book.specs.Rows.{needs-fifth, lots-on, lot-off, lots-off, with-position, with-heat, with-offer, credited, debited, units-on, units-off, is-long, is-short, long-units, short-units, heat-missing, heat-value, offer-missing, offer-units, with-state, is-free, is-frozen, is-struck, is-frozen-for, is-free-of, frozen-for, released, passed, with-held, is-paired, is-prepaid, is-held, is-funded};
+ghost use Rattle.book.specs.Rows.{needs-fifth, lots-on, lot-off, lots-off, with-position, with-heat, with-offer, credited, debited, units-on, units-off, is-long, is-short, long-units, short-units, heat-missing, heat-value, offer-missing, offer-units, with-state, is-free, is-frozen, is-struck, is-frozen-for, is-ordinary-for, is-free-of, frozen-for, released, passed, with-held, is-paired, is-prepaid, is-held, is-funded, is-awaiting};
 ghost use Rattle.book.specs.Accounts.{new-account};
 ghost use Rattle.book.specs.Receipts.{new-receipt};
 ghost use Rattle.rows.specs.Places.{place};
@@ -413,6 +413,14 @@ pub fn is_struck(r: Receipt) -> bool
     }
 }
 
+// An account's number, as rows hold it.
+pub fn account_number(number: u64) -> u8
+    requires { ⌜ number < 32 ⌝ }
+    ensures { λ r. ⌜ r ≡ number ⌝ }
+{
+    number as u8
+}
+
 // Whether a receipt is frozen for this match.
 pub fn is_frozen_for(r: Receipt, number: u64) -> bool
     ensures { λ t. ⌜ t ≡ is-frozen-for number (r .state) ⌝ }
@@ -423,6 +431,13 @@ pub fn is_frozen_for(r: Receipt, number: u64) -> bool
         ReceiptState::Frozen(j) => j as u64 == number,
         ReceiptState::Struck => false,
     }
+}
+
+// Whether a receipt is frozen for this match and ordinary.
+pub fn is_ordinary_for(r: Receipt, number: u64) -> bool
+    ensures { λ t. ⌜ t ≡ is-ordinary-for number r ⌝ }
+{
+    is_frozen_for(r, number) & !r.bonded
 }
 
 // Whether a receipt is free, this owner's and of the class meant: bonded, or either.
@@ -555,6 +570,7 @@ pub fn is_paired(m: Match) -> bool
         Stage::Closed => false,
         Stage::Ended => false,
         Stage::Funded => false,
+        Stage::Awaiting => false,
     }
 }
 
@@ -570,6 +586,7 @@ pub fn is_prepaid(m: Match) -> bool
         Stage::Closed => false,
         Stage::Ended => false,
         Stage::Funded => false,
+        Stage::Awaiting => false,
     }
 }
 
@@ -585,6 +602,7 @@ pub fn is_held(m: Match) -> bool
         Stage::Closed => false,
         Stage::Ended => false,
         Stage::Funded => false,
+        Stage::Awaiting => false,
     }
 }
 
@@ -600,6 +618,23 @@ pub fn is_funded(m: Match) -> bool
         Stage::Closed => false,
         Stage::Ended => false,
         Stage::Funded => true,
+        Stage::Awaiting => false,
+    }
+}
+
+// Whether a match awaits auction.
+pub fn is_awaiting(m: Match) -> bool
+    ensures { λ r. ⌜ r ≡ is-awaiting (m .stage) ⌝ }
+{
+    let stage = m.stage;
+    match stage {
+        Stage::Paired => false,
+        Stage::Prepaid => false,
+        Stage::Held => false,
+        Stage::Closed => false,
+        Stage::Ended => false,
+        Stage::Funded => false,
+        Stage::Awaiting => true,
     }
 }
 

@@ -169,6 +169,15 @@ fn run(book: Book, s: &[u8], from: usize, out: &mut [u8], at: usize, wanted: boo
                 book = o.book;
                 answer = o.answer;
             }
+            Call::Auction {
+                number,
+                winner,
+                proceeds,
+            } => {
+                let o = settlement::auction(book, number, winner, proceeds);
+                book = o.book;
+                answer = o.answer;
+            }
         }
         w = put_reply(out, w, answer, wanted);
     }

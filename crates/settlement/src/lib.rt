@@ -1,8 +1,10 @@
-// Calls 13 to 17: Pay, Measure, Invoice, Terminate, Hand over.
+// Calls 13 to 18: Pay, Measure, Invoice, Terminate, Hand over, Auction.
 ghost use mathlib.Core.Path.{_≡_};
-ghost use mathlib.Core.Bool.{not, _||_};
+ghost use mathlib.Core.Bool.{not, _&&_, _||_};
 ghost use Prim.Native.Nat.{_≤_, _<_, _*_};
 ghost use lib.Dec.{ltb};
+ghost use lib.IntN.{pos};
+ghost use lib.Signed.{ltZ};
 ghost use Rattle.coal.specs.Choice.{pick};
 ghost use Rattle.coal.specs.Coal.{coal-price, coal-weight, amount};
 ghost use Rattle.coal.specs.Ranges.{most-weight};
@@ -11,11 +13,12 @@ ghost use Rattle.book.specs.declared.Stage.{Stage};
 ghost use Rattle.book.specs.Counting.{iter, tally};
 ghost use Rattle.book.specs.Rows.{heat-missing, heat-value};
 ghost use Rattle.book.specs.Answers.{refusal-of};
-ghost use Rattle.book.specs.Tables.{match-at, pay, charge, frozen-at};
-ghost use Rattle.book.specs.Settlement.{punish, release-turn, pass-turn, set-stage, buyer-fault, seller-fault, into-held, fault-ended, paid, pay-match, measured, measure, invoice, terminated, terminate, handed, hand-over};
+ghost use Rattle.book.specs.Tables.{account-at, match-at, pay, charge, frozen-at, ordinary-at};
+ghost use Rattle.book.specs.Settlement.{punish, release-turn, pass-turn, set-stage, buyer-fault, seller-fault, into-held, to-auction, fault-ended, paid, pay-match, measured, measure, invoice, terminated, terminate, handed, hand-over, sold, unsold, auctioned, auction};
 ghost use Rattle.book.specs.Lists.{Reached};
 ghost use Rattle.rows.specs.Places.{place};
-ghost use Rattle.settlement.specs.Money.{most-paid, percent-of, Room, fined, Deal, Due};
+ghost use Rattle.settlement.specs.Money.{most-paid, percent-of, Room, fined, Deal, Due, Handing};
+use book::Account;
 use book::Answer;
 use book::Book;
 use book::Fault;
@@ -91,6 +94,19 @@ fn frozen_receipts(receipts: [Receipt; Book::RECEIPTS], count: usize, number: u6
     frozen
 }
 
+// Of the first receipts of a table, how many are frozen for a match and ordinary.
+fn ordinary_receipts(receipts: [Receipt; Book::RECEIPTS], count: usize, number: u64) -> u64
+    requires { ⌜ count ≤ 256 ⌝ }
+    ensures { λ r. ⌜ r ≡ tally count 0 (ordinary-at receipts number) ⌝ }
+{
+    let mut ordinary: u64 = 0;
+    for i in 0..count {
+        let r = receipts[i];
+        ordinary = rows::counted(ordinary, rows::is_ordinary_for(r, number));
+    }
+    ordinary
+}
+
 // "its receipts are free again"
 fn free_again(
     receipts: [Receipt; Book::RECEIPTS],
@@ -108,21 +124,21 @@ fn free_again(
     next
 }
 
-// "the receipts pass to the buyer, free"
+// "the receipts pass to the buyer, free"; a winner "takes the receipts"
 fn pass_receipts(
     receipts: [Receipt; Book::RECEIPTS],
     count: usize,
     number: u64,
-    buyer: u64,
+    taker: u64,
 ) -> [Receipt; Book::RECEIPTS]
     requires { ⌜ count ≤ 256 ⌝ }
-    requires { ⌜ buyer < 32 ⌝ }
-    ensures { λ r. ⌜ r ≡ iter count 0 (pass-turn number buyer) receipts ⌝ }
+    requires { ⌜ taker < 32 ⌝ }
+    ensures { λ r. ⌜ r ≡ iter count 0 (pass-turn number taker) receipts ⌝ }
 {
     let mut next = receipts;
     for i in 0..count {
         let r = next[i];
-        next[i] = rows::passed(r, number, buyer);
+        next[i] = rows::passed(r, number, taker);
     }
     next
 }
@@ -205,12 +221,31 @@ fn into_held(book: Book, number: u64, m: Match, v: u64, stage: Stage) -> Book
     set_stage(paid, number, v, stage)
 }
 
-// "In a receipts book it gives the new stage 5, funded." "A board match goes from Pay to prepaid."
-fn paid_stage(board: bool) -> Stage
-    ensures { λ r. ⌜ r ≡ pick board Stage.Prepaid Stage.Funded ⌝ }
+// "a match of an overseas buyer with any ordinary receipt": by the buyer's residence and the receipts of the match.
+fn to_auction(
+    overseas: bool,
+    receipts: [Receipt; Book::RECEIPTS],
+    count: usize,
+    number: u64,
+) -> bool
+    requires { ⌜ count ≤ 256 ⌝ }
+    ensures { λ r. ⌜ r ≡ (overseas && ltb 0 (tally count 0 (ordinary-at receipts number))) ⌝ }
+{
+    if overseas {
+        return 0 < ordinary_receipts(receipts, count, number);
+    }
+    false
+}
+
+// "In a receipts book it gives the new stage 5, funded", or "stage 6, awaiting auction". "A board match goes from Pay to prepaid."
+fn paid_stage(board: bool, auction: bool) -> Stage
+    ensures { λ r. ⌜ r ≡ pick board Stage.Prepaid (pick auction Stage.Awaiting Stage.Funded) ⌝ }
 {
     if board {
         return Stage::Prepaid;
+    }
+    if auction {
+        return Stage::Awaiting;
     }
     Stage::Funded
 }
@@ -229,16 +264,17 @@ fn fault_ended(book: Book, number: u64, m: Match, v: u64, x: Fault, y: Fault) ->
     set_stage(next, number, 0, Stage::Ended)
 }
 
-// By the buyer's fault, x, and the seller's, y.
-fn paid(book: Book, number: u64, m: Match, v: u64, x: Fault, y: Fault) -> Book
+// By the buyer's fault, x, and the seller's, y; without one the match may go to auction.
+fn paid(book: Book, number: u64, m: Match, v: u64, auction: bool, x: Fault, y: Fault) -> Book
     requires { ⌜ Due book number m v ⌝ }
+    requires { ⌜ auction ≡ to-auction book number m ⌝ }
     requires { ⌜ percent-of x ≤ 100 ⌝ }
     requires { ⌜ percent-of y ≤ 100 ⌝ }
     ensures { λ r. ⌜ r ≡ paid book number m x y ⌝ }
 {
     match x {
         Fault::Faultless => match y {
-            Fault::Faultless => into_held(book, number, m, v, paid_stage(book.board)),
+            Fault::Faultless => into_held(book, number, m, v, paid_stage(book.board, auction)),
             Fault::Percent(q) => fault_ended(
                 book,
                 number,
@@ -267,9 +303,10 @@ fn pay_due(book: Book, number: u64) -> Book
     let seller = book.accounts[i];
     let receipts = book.receipts;
     let frozen = frozen_receipts(receipts, book.receipt_count, number);
+    let auction = to_auction(buyer.overseas, receipts, book.receipt_count, number);
     let x = fault(buyer.fit, rows::cash_below(buyer, v), book.rate);
     let y = fault(seller.fit, seller_lacks(m, book.board, frozen), book.rate);
-    paid(book, number, m, v, x, y)
+    paid(book, number, m, v, auction, x, y)
 }
 
 // The number with which Pay is refused, by the row at the match's place; 0 where it is accepted.
@@ -510,15 +547,15 @@ pub fn terminate(book: Book, number: u64, party: u64) -> Outcome
 
 // ---- Hand over
 
-// "passes the receipts and pays the seller's 80%": "the rest is held; the receipts pass to the buyer, free; stage held."
-fn handed(book: Book, number: u64, m: Match, v: u64) -> Book
-    requires { ⌜ Due book number m v ⌝ }
-    ensures { λ r. ⌜ r ≡ handed book number m v ⌝ }
+// "passes the receipts and pays the seller's 80%": "the rest is held"; the receipts pass to one who takes them, "free; stage held."
+fn handed(book: Book, number: u64, m: Match, v: u64, taker: u64) -> Book
+    requires { ⌜ Handing book number m v taker ⌝ }
+    ensures { λ r. ⌜ r ≡ handed book number m v taker ⌝ }
 {
     let first = percent_down(80, v);
     let rest = v - first;
     let receipts = book.receipts;
-    let passed = pass_receipts(receipts, book.receipt_count, number, m.buyer as u64);
+    let passed = pass_receipts(receipts, book.receipt_count, number, taker);
     let mut given = pay(book, m.seller, first);
     given.receipts = passed;
     set_stage(given, number, rest, Stage::Held)
@@ -554,7 +591,123 @@ pub fn hand_over(book: Book, number: u64) -> Outcome
         };
     }
     let v = value(m, book.tonnes);
-    let next = handed(book, number, m, v);
+    let next = handed(book, number, m, v, m.buyer as u64);
+    Outcome {
+        answer: Answer::Accepted(0),
+        book: next,
+    }
+}
+
+// ---- Auction
+
+// "the winner pays the proceeds to the buyer and takes the receipts, the seller gets 80% and the rest is held as before."
+fn sold(book: Book, number: u64, m: Match, v: u64, winner: u64, proceeds: u64) -> Book
+    requires { ⌜ Due book number m v ⌝ }
+    requires { ⌜ winner < 32 ⌝ }
+    requires { ⌜ proceeds ≤ most-paid ⌝ }
+    ensures { λ r. ⌜ r ≡ sold book number m winner proceeds ⌝ }
+{
+    let charged = charge(book, rows::account_number(winner), proceeds);
+    let paid = pay(charged, m.buyer, proceeds);
+    handed(paid, number, m, v, winner)
+}
+
+// "the buyer gets V back, pays the seller 20% of V, down, the match is ended and the receipts are freed"
+fn unsold(book: Book, number: u64, m: Match, v: u64) -> Book
+    requires { ⌜ Due book number m v ⌝ }
+    ensures { λ r. ⌜ r ≡ unsold book number m v ⌝ }
+{
+    let part = percent_down(20, v);
+    let receipts = book.receipts;
+    let freed = free_again(receipts, book.receipt_count, number);
+    let back = pay(book, m.buyer, v);
+    let charged = charge(back, m.buyer, part);
+    let mut next = pay(charged, m.seller, part);
+    next.receipts = freed;
+    set_stage(next, number, 0, Stage::Ended)
+}
+
+// By the proceeds: "Proceeds of zero mean nobody bid".
+fn auctioned(book: Book, number: u64, m: Match, v: u64, winner: u64, proceeds: u64) -> Book
+    requires { ⌜ Due book number m v ⌝ }
+    requires { ⌜ winner < 32 ⌝ }
+    requires { ⌜ proceeds ≤ most-paid ⌝ }
+    ensures { λ r. ⌜ r ≡ auctioned book number m winner proceeds ⌝ }
+{
+    if proceeds == 0 {
+        return unsold(book, number, m, v);
+    }
+    sold(book, number, m, v, winner, proceeds)
+}
+
+// "the winner is overseas and proceeds are above zero"
+fn cannot_win(taker: Account, proceeds: u64) -> bool
+    ensures { λ r. ⌜ r ≡ (ltb 0 proceeds && taker .overseas) ⌝ }
+{
+    (0 < proceeds) & taker.overseas
+}
+
+// "proceeds are above zero and its cash is below them"
+fn cannot_pay(taker: Account, proceeds: u64) -> bool
+    requires { ⌜ proceeds ≤ most-paid ⌝ }
+    ensures { λ r. ⌜ r ≡ (ltb 0 proceeds && ltZ (taker .cash) (pos proceeds)) ⌝ }
+{
+    (0 < proceeds) & rows::cash_below(taker, proceeds)
+}
+
+// The number with which Auction is refused, by the rows at the places of the match and of the winner; 0 where it is accepted.
+pub fn auction_refusal(
+    book: Book,
+    m: Match,
+    taker: Account,
+    number: u64,
+    winner: u64,
+    proceeds: u64,
+) -> u64
+    requires { ⌜ Reached book ⌝ }
+    requires { ⌜ m ≡ match-at book (place 256 number) ⌝ }
+    requires { ⌜ taker ≡ account-at book (place 32 winner) ⌝ }
+    ensures { λ r. ⌜ r ≡ refusal-of (auction book number winner proceeds .answer) ⌝ }
+{
+    if book.account_count as u64 <= winner {
+        return 6;
+    }
+    if 1_000_000_000_000_000 < proceeds {
+        return 8;
+    }
+    if book.match_count as u64 <= number {
+        return 21;
+    }
+    if !rows::is_awaiting(m) {
+        return 22;
+    }
+    if cannot_win(taker, proceeds) {
+        return 29;
+    }
+    if cannot_pay(taker, proceeds) {
+        return 30;
+    }
+    0
+}
+
+// "Call 18 names match, winner and proceeds."
+pub fn auction(book: Book, number: u64, winner: u64, proceeds: u64) -> Outcome
+    requires { ⌜ Reached book ⌝ }
+    ensures { λ r. ⌜ r ≡ auction book number winner proceeds ⌝ }
+{
+    let j = rows::match_place(number);
+    let m = book.matches[j];
+    let k = rows::account_place(winner);
+    let taker = book.accounts[k];
+    let refused = auction_refusal(book, m, taker, number, winner, proceeds);
+    if refused != 0 {
+        return Outcome {
+            answer: Answer::Refused(refused),
+            book,
+        };
+    }
+    let v = value(m, book.tonnes);
+    let next = auctioned(book, number, m, v, winner, proceeds);
     Outcome {
         answer: Answer::Accepted(0),
         book: next,

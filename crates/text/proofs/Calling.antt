@@ -10,7 +10,7 @@ use Rattle.coal.specs.Choice.{pick}
 use Rattle.book.specs.declared.Call.{Call}
 use Rattle.text.specs.declared.lines.Line.{Line}
 use Rattle.text.specs.declared.lines.OpeningLine.{OpeningLine}
-use Rattle.text.specs.Lines.{call-of, opening-of, one-argument, two-arguments}
+use Rattle.text.specs.Lines.{call-of, opening-of, one-argument, two-arguments, three-arguments}
 
 -- what holds of each number below m
 abbrev Each : ℕ → (ℕ → Type 0) → Type 0
@@ -36,7 +36,7 @@ call-by l n =
     pick (eqb n 1) (pick (eqb (getD l 0 0) 12) (Line.Run Call.Close) Line.Bad)
     (pick (eqb n 2) (one-argument (getD l 0 0) (getD l 1 0))
     (pick (eqb n 3) (two-arguments (getD l 0 0) (getD l 1 0) (getD l 2 0))
-    (pick (eqb n 4) (pick (eqb (getD l 0 0) 4) (Line.Run (Call.Trade (getD l 1 0) (getD l 2 0) (getD l 3 0))) Line.Bad)
+    (pick (eqb n 4) (three-arguments (getD l 0 0) (getD l 1 0) (getD l 2 0) (getD l 3 0))
     (pick (eqb n 8) (pick (eqb (getD l 0 0) 14) (Line.Run (Call.Measure (getD l 1 0) (getD l 2 0) (getD l 3 0) (getD l 4 0) (getD l 5 0) (getD l 6 0) (getD l 7 0))) Line.Bad)
     Line.Bad))))
 

@@ -146,6 +146,7 @@ stage-few Stage.Held = omega arith
 stage-few Stage.Closed = omega arith
 stage-few Stage.Ended = omega arith
 stage-few Stage.Funded = omega arith
+stage-few Stage.Awaiting = omega arith
 
 match-40 : (j : ℕ) (m : Match) → j < 1_000 → m .buyer < 1_000 → m .seller < 1_000 → m .units < 100_000 → m .price < 100_000_000 → m .held < 10_000_000_000_000_000 → Characters 40 (match-columns j m)
 match-40 j m f g h k l n =

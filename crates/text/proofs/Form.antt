@@ -32,7 +32,7 @@ reads (k ∷ x ∷ y ∷ []) =
     (either k (Call.Lodge x y) _
     (either k (Call.Strike x y) _
     (either k (Call.Declare x y) _ (either k (Call.Offer x y) _ (either k (Call.Take x y) _ (either k (Call.Terminate x y) _ tt))))))))
-reads (k ∷ x ∷ y ∷ z ∷ []) = either k (Call.Trade x y z) _ tt
+reads (k ∷ x ∷ y ∷ z ∷ []) = either k (Call.Trade x y z) _ (either k (Call.Auction x y z) _ tt)
 reads (k ∷ x ∷ y ∷ z ∷ u ∷ []) = tt
 reads (k ∷ x ∷ y ∷ z ∷ u ∷ v ∷ []) = tt
 reads (k ∷ x ∷ y ∷ z ∷ u ∷ v ∷ w ∷ []) = tt
@@ -63,3 +63,4 @@ reads-back (Call.Measure j w q m s f a) = refl
 reads-back (Call.Invoice x) = refl
 reads-back (Call.Terminate x y) = refl
 reads-back (Call.HandOver x) = refl
+reads-back (Call.Auction x y z) = refl

@@ -34,7 +34,7 @@ unfolding numbers-on numbers lines call-of line-of
 session-read = refl
 
 -- a blank line, leading zeros, 19 digits, spaces, a sign, one argument too many and too few, no such call, an opening as a later line, no newline
-bad-read : map line-of (lines (bytes "\n012\n9 00\n9 1000000000000000000\n9  0\n9 0 \n 9 0\n9 -1\n12 0\n9\n18 0\n0 0 5 20 600000\n12")) ≡ replicate 13 Line.Bad
+bad-read : map line-of (lines (bytes "\n012\n9 00\n9 1000000000000000000\n9  0\n9 0 \n 9 0\n9 -1\n12 0\n9\n19 0\n0 0 5 20 600000\n12")) ≡ replicate 13 Line.Bad
 unfolding numbers-on numbers lines call-of line-of
 bad-read = refl
 
@@ -83,7 +83,7 @@ unfolding digits last-digits right padded yuan each account-entry receipt-entry 
 page-printed = refl
 
 -- five fen below zero, and the most that `Sound` lets an account come to below it, which fits the field
-cash-printed : map (λ z. account-columns 31 (with-cash (with-position blank-account Side.Short 1_000 no-lots) z)) (negsuc 4 ∷ negsuc 136_287_999_999_999_999 ∷ []) ≡ bytes " 31                 -0.05  short    1000" ∷ bytes " 31  -1362880000000000.00  short    1000" ∷ []
+cash-printed : map (λ z. account-columns 31 (with-cash (with-position blank-account Side.Short 1_000 no-lots) z)) (negsuc 4 ∷ negsuc 1_290_699_999_999_999_999 ∷ []) ≡ bytes " 31                 -0.05  short    1000" ∷ bytes " 31 -12907000000000000.00  short    1000" ∷ []
 unfolding digits last-digits right yuan
 cash-printed = refl
 

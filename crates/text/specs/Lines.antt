@@ -25,7 +25,8 @@ unfoldable pub line-length : List ℕ → ℕ
 line-length [] = 0
 line-length (b ∷ s) = pick (eqb b 10) 1 (line-length s + 1)
 
--- ---- a line that is a call: "call number 1 to 16, then just its arguments in the order above"; "Lists and sessions may hold call 17"
+-- ---- a line that is a call: "call number 1 to 16, then just its arguments in the order above"; "Lists and sessions may hold call 17";
+-- "A list of calls or a session may now hold this one", call 18
 
 abbrev pub arguments : Call → List ℕ
 arguments (Call.Join residence fitness) = residence ∷ fitness ∷ []
@@ -45,6 +46,7 @@ arguments (Call.Measure j w q m s f a) = j ∷ w ∷ q ∷ m ∷ s ∷ f ∷ a �
 arguments (Call.Invoice j) = j ∷ []
 arguments (Call.Terminate j party) = j ∷ party ∷ []
 arguments (Call.HandOver j) = j ∷ []
+arguments (Call.Auction j winner x) = j ∷ winner ∷ x ∷ []
 
 abbrev pub one-argument : ℕ → ℕ → Line
 one-argument k x =
@@ -68,13 +70,19 @@ two-arguments k x y =
     (pick (eqb k 16) (Line.Run (Call.Terminate x y))
     Line.Bad))))))))
 
+abbrev pub three-arguments : ℕ → ℕ → ℕ → ℕ → Line
+three-arguments k x y z =
+    pick (eqb k 4) (Line.Run (Call.Trade x y z))
+    (pick (eqb k 18) (Line.Run (Call.Auction x y z))
+    Line.Bad)
+
 -- the call that a line's numbers are; "0 later is 26"
 unfoldable pub call-of : List ℕ → Line
 call-of [] = Line.Bad
 call-of (k ∷ []) = pick (eqb k 12) (Line.Run Call.Close) Line.Bad
 call-of (k ∷ x ∷ []) = one-argument k x
 call-of (k ∷ x ∷ y ∷ []) = two-arguments k x y
-call-of (k ∷ x ∷ y ∷ z ∷ []) = pick (eqb k 4) (Line.Run (Call.Trade x y z)) Line.Bad
+call-of (k ∷ x ∷ y ∷ z ∷ []) = three-arguments k x y z
 call-of (k ∷ x ∷ y ∷ z ∷ u ∷ []) = Line.Bad
 call-of (k ∷ x ∷ y ∷ z ∷ u ∷ v ∷ []) = Line.Bad
 call-of (k ∷ x ∷ y ∷ z ∷ u ∷ v ∷ w ∷ []) = Line.Bad

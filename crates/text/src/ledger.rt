@@ -55,6 +55,7 @@ pub fn stage_number(stage: Stage) -> u64
         Stage::Closed => 3,
         Stage::Ended => 4,
         Stage::Funded => 5,
+        Stage::Awaiting => 6,
     }
 }
 

@@ -6,7 +6,7 @@ ghost use mathlib.Core.Path.{_≡_};
 ghost use Prim.Native.Nat.{_+_, _≤_};
 ghost use lib.ListN.{length, take, drop};
 ghost use Rattle.text.specs.Lines.{line-length, call-of, line-of, opening-of, opening-line-of};
-ghost use Rattle.text.specs.Lines.{one-argument, two-arguments};
+ghost use Rattle.text.specs.Lines.{one-argument, two-arguments, three-arguments};
 
 // A line after the first: a call, or a line not of the form.
 pub enum Line {
@@ -118,6 +118,26 @@ fn two_arguments(k: u64, x: u64, y: u64) -> Line
     Line::Bad
 }
 
+fn three_arguments(k: u64, x: u64, y: u64, z: u64) -> Line
+    ensures { λ r. ⌜ r ≡ three-arguments k x y z ⌝ }
+{
+    if k == 4 {
+        return Line::Run(Call::Trade {
+            buyer: x,
+            seller: y,
+            units: z,
+        });
+    }
+    if k == 18 {
+        return Line::Run(Call::Auction {
+            number: x,
+            winner: y,
+            proceeds: z,
+        });
+    }
+    Line::Bad
+}
+
 fn call_of(ns: Numbers) -> Line
     requires { ⌜ ns .count ≤ 8 ⌝ }
     ensures { λ r. ⌜ r ≡ call-of (take (ns .count) (ns .values)) ⌝ }
@@ -141,14 +161,7 @@ fn call_of(ns: Numbers) -> Line
         return two_arguments(k, x, y);
     }
     if count == 4 {
-        if k == 4 {
-            return Line::Run(Call::Trade {
-                buyer: x,
-                seller: y,
-                units: z,
-            });
-        }
-        return Line::Bad;
+        return three_arguments(k, x, y, z);
     }
     if count == 8 {
         if k == 14 {

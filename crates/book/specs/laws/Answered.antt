@@ -1,4 +1,4 @@
--- The refusals of all seventeen calls, gone through once: a call is refused and leaves the book, or it is accepted, none of its conditions applies,
+-- The refusals of all eighteen calls, gone through once: a call is refused and leaves the book, or it is accepted, none of its conditions applies,
 -- and it leaves the book that its rule says. A law of single calls goes by cases on this. Assumes nothing.
 use mathlib.Core.Path.{_≡_, refl, sym, ap, _∙_}
 use mathlib.Core.Bool.{Bool, true, false, not, _&&_}
@@ -9,7 +9,7 @@ use lib.Dec.{ltb}
 use lib.IntN.{pos}
 use lib.Signed.{ltZ}
 use Rattle.book.specs.Types.{Heat, Offer, ReceiptState, Stage, Book, Outcome, Call}
-use Rattle.book.specs.Rows.{needs-fifth, with-heat, with-offer, with-state, long-units, short-units, is-long, is-short, offer-missing, offer-units, heat-missing, is-struck, is-frozen, is-paired, is-prepaid, is-held, is-funded, any-class}
+use Rattle.book.specs.Rows.{needs-fifth, with-heat, with-offer, with-state, long-units, short-units, is-long, is-short, offer-missing, offer-units, heat-missing, is-struck, is-frozen, is-paired, is-prepaid, is-held, is-funded, is-awaiting, any-class}
 use Rattle.book.specs.Tables.{account-at, receipt-at, match-at, add-account, add-receipt, put-account, put-receipt, with-deposited, with-day, with-open, pay, charge, free-receipts}
 use Rattle.book.specs.Answers.{refuse, refuse-if, accept, refusal-of}
 use Rattle.book.specs.Opening.{fresh, no-book, opening, next-day}
@@ -18,7 +18,7 @@ use Rattle.book.specs.Receipts.{lodge, strike, new-receipt}
 use Rattle.book.specs.Pairing.{pair}
 use Rattle.book.specs.Offers.{declare, offer, retract, take-offer, end-offer}
 use Rattle.book.specs.Closing.{close, all-passes, lapse-offers}
-use Rattle.book.specs.Settlement.{value, set-stage, pay-match, paid, buyer-fault, seller-fault, measure, measured, cargo, amount-due, invoice, terminate, terminated, hand-over, handed}
+use Rattle.book.specs.Settlement.{value, set-stage, pay-match, paid, buyer-fault, seller-fault, measure, measured, cargo, amount-due, invoice, terminate, terminated, hand-over, handed, auction, auctioned}
 use Rattle.book.specs.Calls.{step}
 use Rattle.book.specs.laws.Counting.{impossible}
 
@@ -137,6 +137,14 @@ pub record MayHandOver (b : Book) (j : ℕ) : Type 0 where
   pub there : j < b .«match_count»
   pub funded : match-at b j .stage ≡ Stage.Funded
 
+pub record MayAuction (b : Book) (j winner x : ℕ) : Type 0 where
+  pub winner-there : winner < b .«account_count»
+  pub few : x ≤ 1_000_000_000_000_000
+  pub there : j < b .«match_count»
+  pub awaiting : match-at b j .stage ≡ Stage.Awaiting
+  pub domestic : ltb 0 x ≡ true → account-at b winner .overseas ≡ false
+  pub enough : ltb 0 x ≡ true → ltZ (account-at b winner .cash) (pos x) ≡ false
+
 -- ---- the answers
 
 pub data Answered (b : Book) : Call → Outcome → Type 0 where
@@ -157,7 +165,8 @@ pub data Answered (b : Book) : Call → Outcome → Type 0 where
   measures : {j w q m s f a : ℕ} → MayMeasure b j w q m s f a → Answered b (Call.Measure j w q m s f a) (accept (cargo b (match-at b j) w m .over) (measured b j (match-at b j) (amount-due b (match-at b j) w q m s f a)))
   invoices : {j : ℕ} → MayInvoice b j → Answered b (Call.Invoice j) (accept 0 (set-stage (pay b (match-at b j .seller) (match-at b j .held)) j 0 Stage.Closed))
   terminates : {j party : ℕ} → MayTerminate b j party → Answered b (Call.Terminate j party) (accept 0 (terminated b j (match-at b j) party))
-  hands-over : {j : ℕ} → MayHandOver b j → Answered b (Call.HandOver j) (accept 0 (handed b j (match-at b j) (value b (match-at b j))))
+  hands-over : {j : ℕ} → MayHandOver b j → Answered b (Call.HandOver j) (accept 0 (handed b j (match-at b j) (value b (match-at b j)) (match-at b j .buyer)))
+  auctions : {j winner x : ℕ} → MayAuction b j winner x → Answered b (Call.Auction j winner x) (accept 0 (auctioned b j (match-at b j) winner x))
 
 -- ---- tests
 
@@ -181,6 +190,7 @@ paired-is Stage.Held e = cc
 paired-is Stage.Closed e = cc
 paired-is Stage.Ended e = cc
 paired-is Stage.Funded e = cc
+paired-is Stage.Awaiting e = cc
 
 prepaid-is : (s : Stage) → not (is-prepaid s) ≡ false → s ≡ Stage.Prepaid
 prepaid-is Stage.Paired e = cc
@@ -189,6 +199,7 @@ prepaid-is Stage.Held e = cc
 prepaid-is Stage.Closed e = cc
 prepaid-is Stage.Ended e = cc
 prepaid-is Stage.Funded e = cc
+prepaid-is Stage.Awaiting e = cc
 
 held-is : (s : Stage) → not (is-held s) ≡ false → s ≡ Stage.Held
 held-is Stage.Paired e = cc
@@ -197,6 +208,7 @@ held-is Stage.Held e = refl
 held-is Stage.Closed e = cc
 held-is Stage.Ended e = cc
 held-is Stage.Funded e = cc
+held-is Stage.Awaiting e = cc
 
 funded-is : (s : Stage) → not (is-funded s) ≡ false → s ≡ Stage.Funded
 funded-is Stage.Paired e = cc
@@ -205,6 +217,16 @@ funded-is Stage.Held e = cc
 funded-is Stage.Closed e = cc
 funded-is Stage.Ended e = cc
 funded-is Stage.Funded e = refl
+funded-is Stage.Awaiting e = cc
+
+awaiting-is : (s : Stage) → not (is-awaiting s) ≡ false → s ≡ Stage.Awaiting
+awaiting-is Stage.Paired e = cc
+awaiting-is Stage.Prepaid e = cc
+awaiting-is Stage.Held e = cc
+awaiting-is Stage.Closed e = cc
+awaiting-is Stage.Ended e = cc
+awaiting-is Stage.Funded e = cc
+awaiting-is Stage.Awaiting e = refl
 
 free-is : (s : ReceiptState) → is-struck s ≡ false → is-frozen s ≡ false → s ≡ ReceiptState.Free
 free-is ReceiptState.Free g h = refl
@@ -222,13 +244,13 @@ standing-is (Offer.Units u) h = refl
 declared-is : (h : Heat) → heat-missing h ≡ false → h ≡ Heat.Missing → ⊥
 declared-is h e m = impossible (cc (rw m at e))
 
-ruleset accepted = (joins, deposits, withdraws, trades, lodges, strikes, declares, offers, retracts, takes, days, closes, pays, measures, invoices, terminates, hands-over)
+ruleset accepted = (joins, deposits, withdraws, trades, lodges, strikes, declares, offers, retracts, takes, days, closes, pays, measures, invoices, terminates, hands-over, auctions)
 
 -- test after test, the accepted answer behind them, and what each test that does not hold says
-ruleset tests = (test, refl, accepted, ltb-false, leb-false, eqb-true, eqb-false, not-false, both-not, flipped, paired-is, prepaid-is, held-is, funded-is, free-is, missing-is, standing-is, declared-is)
+ruleset tests = (test, refl, accepted, ltb-false, leb-false, eqb-true, eqb-false, not-false, both-not, flipped, paired-is, prepaid-is, held-is, funded-is, awaiting-is, free-is, missing-is, standing-is, declared-is)
 
 pub answered : (b : Book) (c : Call) → Answered b c (step b c)
-unfolding step join deposit withdraw trade lodge strike declare offer retract take-offer next-day close pay-match measure invoice terminate hand-over
+unfolding step join deposit withdraw trade lodge strike declare offer retract take-offer next-day close pay-match measure invoice terminate hand-over auction
 answered b (Call.Join residence fitness) = search tests depth 16
 answered b (Call.Deposit k x) = search tests depth 16
 answered b (Call.Withdraw k x) = search tests depth 16
@@ -246,6 +268,7 @@ answered b (Call.Measure j w q m s f a) = search tests depth 16
 answered b (Call.Invoice j) = search tests depth 16
 answered b (Call.Terminate j party) = search tests depth 16
 answered b (Call.HandOver j) = search tests depth 16
+answered b (Call.Auction j winner x) = search tests depth 16
 
 -- "A refusal is one number; the book is unchanged."
 refused-alone : {b : Book} {c : Call} {o : Outcome} → Answered b c o → (refusal-of (o .answer) ≡ 0 → ⊥) → refuse (refusal-of (o .answer)) b ≡ o
@@ -267,6 +290,7 @@ refused-alone (measures g) h = absurd (h refl)
 refused-alone (invoices g) h = absurd (h refl)
 refused-alone (terminates g) h = absurd (h refl)
 refused-alone (hands-over g) h = absurd (h refl)
+refused-alone (auctions g) h = absurd (h refl)
 
 pub refused-is : (b : Book) (c : Call) {n : ℕ} → n ≡ refusal-of (step b c .answer) → (n ≡ 0 → ⊥) → refuse n b ≡ step b c
 refused-is b c q h = ap (λ (k : ℕ). refuse k b) q ∙ refused-alone (answered b c) (λ z. h (q ∙ z))
@@ -301,9 +325,13 @@ module _ (b : Book) where
   terminate-goes (refused n p) h = absurd (omega arith)
   terminate-goes (terminates g) h = (g, refl)
 
-  hand-over-goes : {j : ℕ} {o : Outcome} → Answered b (Call.HandOver j) o → refusal-of (o .answer) ≡ 0 → MayHandOver b j × (accept 0 (handed b j (match-at b j) (value b (match-at b j))) ≡ o)
+  hand-over-goes : {j : ℕ} {o : Outcome} → Answered b (Call.HandOver j) o → refusal-of (o .answer) ≡ 0 → MayHandOver b j × (accept 0 (handed b j (match-at b j) (value b (match-at b j)) (match-at b j .buyer)) ≡ o)
   hand-over-goes (refused n p) h = absurd (omega arith)
   hand-over-goes (hands-over g) h = (g, refl)
+
+  auction-goes : {j winner x : ℕ} {o : Outcome} → Answered b (Call.Auction j winner x) o → refusal-of (o .answer) ≡ 0 → MayAuction b j winner x × (accept 0 (auctioned b j (match-at b j) winner x) ≡ o)
+  auction-goes (refused n p) h = absurd (omega arith)
+  auction-goes (auctions g) h = (g, refl)
 
   pub trade-accepted : (buyer seller u : ℕ) {n : ℕ} → n ≡ refusal-of (trade b buyer seller u .answer) → n ≡ 0 → MayTrade b buyer seller u × (accept 0 (traded b buyer seller u) ≡ trade b buyer seller u)
   unfolding step
@@ -333,9 +361,13 @@ module _ (b : Book) where
   unfolding step
   terminate-accepted j party e h = terminate-goes (answered b (Call.Terminate j party)) (sym e ∙ h)
 
-  pub hand-over-accepted : (j : ℕ) {n : ℕ} → n ≡ refusal-of (hand-over b j .answer) → n ≡ 0 → MayHandOver b j × (accept 0 (handed b j (match-at b j) (value b (match-at b j))) ≡ hand-over b j)
+  pub hand-over-accepted : (j : ℕ) {n : ℕ} → n ≡ refusal-of (hand-over b j .answer) → n ≡ 0 → MayHandOver b j × (accept 0 (handed b j (match-at b j) (value b (match-at b j)) (match-at b j .buyer)) ≡ hand-over b j)
   unfolding step
   hand-over-accepted j e h = hand-over-goes (answered b (Call.HandOver j)) (sym e ∙ h)
+
+  pub auction-accepted : (j winner x : ℕ) {n : ℕ} → n ≡ refusal-of (auction b j winner x .answer) → n ≡ 0 → MayAuction b j winner x × (accept 0 (auctioned b j (match-at b j) winner x) ≡ auction b j winner x)
+  unfolding step
+  auction-accepted j winner x e h = auction-goes (answered b (Call.Auction j winner x)) (sym e ∙ h)
 
 -- ---- the opening
 

@@ -108,6 +108,7 @@ rank-few Stage.Held = omega arith
 rank-few Stage.Closed = omega arith
 rank-few Stage.Ended = omega arith
 rank-few Stage.Funded = omega arith
+rank-few Stage.Awaiting = omega arith
 
 pub stages-few : (b : Book) → SoundTables b → stages b ≤ 567
 unfolding stages

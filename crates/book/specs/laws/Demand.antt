@@ -13,11 +13,11 @@ use Rattle.book.specs.laws.Units.{all-traded, balanced}
 use Rattle.book.specs.laws.Money.{money, entered}
 use Rattle.book.specs.laws.FirstPass.{first-pass-holds}
 
--- each frozen receipt is frozen for exactly one match, paired or funded, and belongs to that match's seller
+-- each frozen receipt is frozen for exactly one match, paired, funded or awaiting auction, and belongs to that match's seller
 frozen : (e : Book) → SoundTables e → (i j : ℕ) → i < e .«receipt_count» → receipt-at e i .state ≡ ReceiptState.Frozen j → FrozenForOne e i
 frozen e r i j h q =
     let s = r .core .receipts .rows i h in
-    record { number = j; there = s .frozen-there j q; frozen = q; only = λ k z. cc; paired-or-funded = s .frozen-stage j q; sellers = s .frozen-seller j q }
+    record { number = j; there = s .frozen-there j q; frozen = q; only = λ k z. cc; paired-funded-or-awaiting = s .frozen-stage j q; sellers = s .frozen-seller j q }
 
 pub demand-3 : Demand-3
 unfolding frozen-receipts

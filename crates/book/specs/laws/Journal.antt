@@ -24,7 +24,7 @@ use Rattle.book.specs.laws.Counting.{at-set, sum-add}
 use Rattle.book.specs.laws.Answered.{Answered, answered}
 use Rattle.book.specs.laws.Sound.{Core, SoundTables}
 use Rattle.book.specs.laws.Posting.{Posted}
-use Rattle.book.specs.laws.Settling.{rank, Settlement, pay-settles, measure-settles, invoice-settles, terminate-settles, hand-over-settles}
+use Rattle.book.specs.laws.Settling.{rank, Settlement, pay-settles, measure-settles, invoice-settles, terminate-settles, hand-over-settles, auction-settles}
 use Rattle.book.specs.laws.Calls.{deposit-posted, withdraw-posted}
 use Rattle.book.specs.laws.Pairing.{Pairable, pair-core}
 use Rattle.book.specs.laws.Closing.{passes-keep, lapsed}
@@ -129,6 +129,7 @@ change {b} (Answered.measures {j = j} {w = w} {q = q} {m = m} {s = s} {f = f} {a
 change {b} (Answered.invoices {j = j} g) r = settled (invoice-settles b r j (g .there) (g .in-hold))
 change {b} (Answered.terminates {j = j} {party = party} g) r = settled (terminate-settles b r j (g .there) (g .prepaid) party)
 change {b} (Answered.hands-over {j = j} g) r = settled (hand-over-settles b r j (g .there) (g .funded))
+change {b} (Answered.auctions {j = j} {winner = k} {x = x} g) r = settled (auction-settles b r j (g .there) (g .awaiting) k x (g .winner-there) (g .few))
 
 pub changed : (b : Book) (c : Call) → SoundTables b → Change b (entries b c) (amounts c .deposited) (amounts c .withdrawn) (accepts b c) (step b c .book)
 changed b c r = change (answered b c) r

@@ -13,7 +13,7 @@ use borrow.Author.Tests.{eqb-true, eqb-false}
 use Rattle.coal.specs.Choice.{pick}
 use Rattle.book.specs.Types.{Side, Heat, Stage, Lots, Account, Receipt, Match, Book}
 use Rattle.book.specs.Counting.{sum}
-use Rattle.book.specs.Rows.{blank-account, blank-receipt, blank-match, with-position, lots-off, units-off, is-long, is-short, long-units, short-units, frozen-for}
+use Rattle.book.specs.Rows.{blank-account, blank-receipt, blank-match, with-position, lots-off, units-off, is-long, is-short, long-units, short-units, frozen-for, is-paid-for}
 use Rattle.book.specs.Tables.{account-at, receipt-at, match-at, add-match, with-receipts}
 use Rattle.book.specs.Pairing.{taken, take-units, new-match, freeze, pair}
 use Rattle.book.specs.laws.Counting.{by-pick, by-eq, at-set, sum-set, only, only-here, only-else, impossible}
@@ -113,13 +113,13 @@ new-sound b days buyer seller u d p r =
     let s = r .accounts .rows seller (p .seller-there) in
     let few : u ≤ 1_000 = omega (arith, s .few, p .seller-has) in
     let none : 0 ≤ 22_000_000_000_000 = omega arith in
-    search (unpaid {A = account-at b seller .heat ≡ Heat.Missing → ⊥}, unpaid, unfunded, pairable-two, arith)
+    search (unpaid {A = account-at b seller .heat ≡ Heat.Missing → ⊥}, unpaid, not-paid-for, pairable-two, arith)
   where
     unpaid : {A : Type 0} → Stage.Paired ≡ Stage.Prepaid → A
     unpaid e = impossible (cc)
 
-    unfunded : {A : Type 0} → Stage.Paired ≡ Stage.Funded → A
-    unfunded e = impossible (cc)
+    not-paid-for : {A : Type 0} → is-paid-for Stage.Paired ≡ true → A
+    not-paid-for e = impossible (cc)
 
 core-match : (b : Book) (c : Match) → b .«match_count» < 256 → SoundMatch (b .«account_count») (b .day) (b .tonnes) (b .board) c → Core b → Core (add-match b c)
 core-match b c h m r =

@@ -1,4 +1,4 @@
--- Pay, Measure, Invoice, Terminate and Hand over, where they are accepted, are each one settlement of a match: entries are posted, the fund may gain,
+-- Pay, Measure, Invoice, Terminate, Hand over and Auction, where they are accepted, are each one settlement of a match: entries are posted, the fund may gain,
 -- the match gets a stage and money held, and receipts stay frozen for it only where that stage has them. All laws of these calls are read from
 -- that. Assumes nothing.
 use mathlib.Core.Path.{_≡_, refl, sym, ap, _∙_, subst}
@@ -18,10 +18,10 @@ use Rattle.whole.specs.Ring.{ring}
 use Rattle.whole.specs.Whole.{pos-minus, natAbs-neg}
 use Rattle.book.specs.Types.{Heat, ReceiptState, Stage, Account, Receipt, Match, Book, Fault}
 use Rattle.book.specs.Counting.{iter, sum, one-if}
-use Rattle.book.specs.Rows.{blank-receipt, blank-match, is-frozen, is-frozen-for, has-frozen, with-held, with-state}
+use Rattle.book.specs.Rows.{blank-receipt, blank-match, is-frozen, is-frozen-for, has-frozen, is-paid-for, with-held, with-state}
 use Rattle.book.specs.Tables.{account-at, match-at, put-match, with-accounts, with-receipts, with-fund, pay, charge, frozen-receipts}
-use Rattle.book.specs.Settlement.{value, seller-fault, buyer-fault, penalty, punish, release-turn, free-again, pass-turn, pass-receipts, set-stage, first-part, into-held, fault-ended, paid, amount-due, measured, terminated, handed}
-use Rattle.book.specs.Entries.{Entry, plus, minus, penalty-entries, pay-entries, measure-entries, terminate-entries, hand-over-entries}
+use Rattle.book.specs.Settlement.{value, seller-fault, buyer-fault, penalty, punish, release-turn, free-again, pass-turn, pass-receipts, set-stage, first-part, into-held, to-auction, paid-stage, fault-ended, paid, amount-due, measured, terminated, handed, sold, no-bid-part, unsold, auctioned}
+use Rattle.book.specs.Entries.{Entry, plus, minus, penalty-entries, pay-entries, measure-entries, terminate-entries, hand-over-entries, auction-entries}
 use Rattle.book.specs.laws.Counting.{by-pick, rows-add, iter-keeps, sum-set, impossible}
 use Rattle.book.specs.laws.Sound.{SoundMatch, frozen-of, ReceiptTable, SoundTables}
 use Rattle.book.specs.laws.Tables.{matches-put, receipts-put, receipts-rematched, receipts-restaged, None-frozen, not-frozen, unfrozen-for, frozen-set}
@@ -36,10 +36,11 @@ rank Stage.Held = 2
 rank Stage.Closed = 3
 rank Stage.Ended = 3
 rank Stage.Funded = 1
+rank Stage.Awaiting = 1
 
 -- the most that a settlement moves, to and from all accounts together, and into the fund
 abbrev pub most : ℕ
-most = 64_000_000_000_000
+most = 2_100_000_000_000_000
 
 -- a sound table of receipts, of which none of the first i is frozen for match j
 pub record Freed (n m : ℕ) (ms : List Match) (board : Bool) (count j i : ℕ) (l : List Receipt) : Type 0 where
@@ -63,9 +64,13 @@ pub record Settlement (b : Book) (es : List Entry) (e : Book) : Type 0 where
   pub later : rank (match-at b number .stage) < rank stage
   pub row : SoundMatch (b .«account_count») (b .day) (b .tonnes) (b .board) (with-held (match-at b number) held stage)
   pub receipts : ReceiptTable (b .«account_count») (b .«match_count») (set (b .matches) number (with-held (match-at b number) held stage)) (b .board) (b .«receipt_count») (e .receipts)
-  -- receipts of other matches stay frozen, and where it is funded, as many as its units are frozen for it
+  -- receipts of other matches stay frozen, and where V is held for receipts, as many as its units are frozen for it
   pub others : (k : ℕ) → k ≢ number → frozen-of (b .«receipt_count») (b .receipts) k ≤ frozen-of (b .«receipt_count») (e .receipts) k
-  pub all-frozen : stage ≡ Stage.Funded → match-at b number .units ≤ frozen-of (b .«receipt_count») (e .receipts) number
+  pub all-frozen : is-paid-for stage ≡ true → match-at b number .units ≤ frozen-of (b .«receipt_count») (e .receipts) number
+
+settlement-if : {b e d : Book} {es ds : List Entry} (t : Bool) → Settlement b es e → Settlement b ds d → Settlement b (pick t es ds) (pick t e d)
+settlement-if true s r = s
+settlement-if false s r = r
 
 pub settlement-tables : {b e : Book} {es : List Entry} → Settlement b es e → SoundTables b → SoundTables e
 settlement-tables {b} s r =
@@ -82,6 +87,17 @@ Holding tonnes board m x Stage.Held = Unit {0}
 Holding tonnes board m x Stage.Closed = x ≡ 0
 Holding tonnes board m x Stage.Ended = x ≡ 0
 Holding tonnes board m x Stage.Funded = (x ≡ m .units * m .price * tonnes) × (board ≡ false)
+Holding tonnes board m x Stage.Awaiting = (x ≡ m .units * m .price * tonnes) × (board ≡ false)
+
+-- what a match that is paid for holds
+paid-for : (tonnes : ℕ) (board : Bool) (m : Match) (x : ℕ) (s : Stage) → Holding tonnes board m x s → is-paid-for s ≡ true → (x ≡ m .units * m .price * tonnes) × (board ≡ false)
+paid-for tonnes board m x Stage.Paired g e = impossible (cc)
+paid-for tonnes board m x Stage.Prepaid g e = impossible (cc)
+paid-for tonnes board m x Stage.Held g e = impossible (cc)
+paid-for tonnes board m x Stage.Closed g e = impossible (cc)
+paid-for tonnes board m x Stage.Ended g e = impossible (cc)
+paid-for tonnes board m x Stage.Funded g e = g
+paid-for tonnes board m x Stage.Awaiting g e = g
 
 staged : {n day tonnes : ℕ} {board : Bool} {m : Match} (x : ℕ) (s : Stage) → x ≤ 22_000_000_000_000 → Holding tonnes board m x s → SoundMatch n day tonnes board m → SoundMatch n day tonnes board (with-held m x s)
 staged {tonnes = tonnes} {board} {m} x s h g r =
@@ -89,8 +105,8 @@ staged {tonnes = tonnes} {board} {m} x s h g r =
     let value : s ≡ Stage.Prepaid → x ≡ m .units * m .price * tonnes = λ e. at Stage.Prepaid e .0 in
     let kind : s ≡ Stage.Prepaid → board ≡ true = λ e. at Stage.Prepaid e .1 in
     let heat : s ≡ Stage.Prepaid → m .heat ≡ Heat.Missing → ⊥ = λ e. at Stage.Prepaid e .2 in
-    let worth : s ≡ Stage.Funded → x ≡ m .units * m .price * tonnes = λ e. at Stage.Funded e .0 in
-    let not-board : s ≡ Stage.Funded → board ≡ false = λ e. at Stage.Funded e .1 in
+    let worth : is-paid-for s ≡ true → x ≡ m .units * m .price * tonnes = λ e. paid-for tonnes board m x s g e .0 in
+    let not-board : is-paid-for s ≡ true → board ≡ false = λ e. paid-for tonnes board m x s g e .1 in
     search (at Stage.Paired, at Stage.Closed, at Stage.Ended)
 
 -- ---- the receipts
@@ -99,7 +115,7 @@ staged {tonnes = tonnes} {board} {m} x s h g r =
 freed-table : {n m : ℕ} {ms : List Match} {board : Bool} {count j : ℕ} {l : List Receipt} (c : Match) → Freed n m ms board count j count l → ReceiptTable n m (set ms j c) board count l
 freed-table {m = m} {j = j} c t = receipts-rematched m j c (omega arith) (λ k h n. h) (t .done) (t .table)
 
--- only a match that is paired or funded has receipts frozen for it
+-- only a match that is paired, funded or awaits auction has receipts frozen for it
 other-none : (b : Book) (j : ℕ) {s : Stage} → match-at b j .stage ≡ s → has-frozen s ≡ false → SoundTables b
     → Freed (b .«account_count») (b .«match_count») (b .matches) (b .board) (b .«receipt_count») j (b .«receipt_count») (b .receipts)
 other-none b j h f r = record {
@@ -383,7 +399,7 @@ module _ (b : Book) (r : SoundTables b) (j : ℕ) (p : j < b .«match_count») w
   -- "moves V into money held", at a later stage at which it may be held
   into-held-settles : match-at b j .stage ≡ Stage.Paired → (s : Stage) → 0 < rank s → Holding (b .tonnes) (b .board) (match-at b j) (value b (match-at b j)) s
       → ReceiptTable (b .«account_count») (b .«match_count») (set (b .matches) j (with-held (match-at b j) (value b (match-at b j)) s)) (b .board) (b .«receipt_count») (b .receipts)
-      → (s ≡ Stage.Funded → match-at b j .units ≤ frozen-of (b .«receipt_count») (b .receipts) j)
+      → (is-paid-for s ≡ true → match-at b j .units ≤ frozen-of (b .«receipt_count») (b .receipts) j)
       → Settlement b (minus (match-at b j .buyer) (value b (match-at b j)) ∷ []) (into-held b j (match-at b j) (value b (match-at b j)) s)
   unfolding all-entries weight into-held charge
   into-held-settles q s h g t a =
@@ -409,20 +425,22 @@ module _ (b : Book) (r : SoundTables b) (j : ℕ) (p : j < b .«match_count») w
         all-frozen = a;
       }
 
-  -- "In a receipts book it gives the new stage 5, funded." "A board match goes from Pay to prepaid."
-  no-fault-settles : match-at b j .stage ≡ Stage.Paired → seller-fault b j ≡ Fault.Faultless → (t : Bool) → b .board ≡ t
-      → Settlement b (minus (match-at b j .buyer) (value b (match-at b j)) ∷ []) (into-held b j (match-at b j) (value b (match-at b j)) (pick t Stage.Prepaid Stage.Funded))
+  -- "In a receipts book it gives the new stage 5, funded", or "stage 6, awaiting auction". "A board match goes from Pay to prepaid."
+  no-fault-settles : match-at b j .stage ≡ Stage.Paired → seller-fault b j ≡ Fault.Faultless → (t a : Bool) → b .board ≡ t
+      → Settlement b (minus (match-at b j .buyer) (value b (match-at b j)) ∷ []) (into-held b j (match-at b j) (value b (match-at b j)) (pick t Stage.Prepaid (pick a Stage.Awaiting Stage.Funded)))
   unfolding value
-  no-fault-settles s f true e =
+  no-fault-settles s f true a e =
       into-held-settles s Stage.Prepaid (omega arith) (refl, e, faultless-heat b j f e)
       (freed-table _ (record { table = r .core .receipts; done = λ i k. absurd (omega (arith, r .core .receipts .none e)) }))
       (λ z. impossible (cc))
-  no-fault-settles s f false e =
+  no-fault-settles s f false true e =
+      into-held-settles s Stage.Awaiting (omega arith) (refl, e) (receipts-restaged j _ refl refl refl (r .core .receipts)) (λ z. faultless-frozen b j f e)
+  no-fault-settles s f false false e =
       into-held-settles s Stage.Funded (omega arith) (refl, e) (receipts-restaged j _ refl refl refl (r .core .receipts)) (λ z. faultless-frozen b j f e)
 
   paid-settles : match-at b j .stage ≡ Stage.Paired → {x y : Fault} → Few x → Few y → seller-fault b j ≡ y → Settlement b (pay-entries b (match-at b j) x y) (paid b j (match-at b j) x y)
-  unfolding paid pay-entries
-  paid-settles s faultless faultless e = no-fault-settles s e (b .board) refl
+  unfolding paid paid-stage pay-entries
+  paid-settles s faultless faultless e = no-fault-settles s e (b .board) (to-auction b j (match-at b j)) refl
   paid-settles s (percent f) faultless e = ended-settles s (percent f) faultless
   paid-settles s faultless (percent g) e = ended-settles s faultless (percent g)
   paid-settles s (percent f) (percent g) e = ended-settles s (percent f) (percent g)
@@ -430,15 +448,18 @@ module _ (b : Book) (r : SoundTables b) (j : ℕ) (p : j < b .«match_count») w
   pub pay-settles : match-at b j .stage ≡ Stage.Paired → Settlement b (pay-entries b (match-at b j) (buyer-fault b j) (seller-fault b j)) (paid b j (match-at b j) (buyer-fault b j) (seller-fault b j))
   pay-settles s = paid-settles s (buyer-few b j (r .core .terms .rate-few)) (seller-few b j (r .core .terms .rate-few)) refl
 
-  -- "passes the receipts and pays the seller's 80%"
-  pub hand-over-settles : match-at b j .stage ≡ Stage.Funded → Settlement b (hand-over-entries b (match-at b j)) (handed b j (match-at b j) (value b (match-at b j)))
-  unfolding all-entries weight hand-over-entries handed pass-receipts pass-turn pay value
-  hand-over-settles s =
+  -- "passes the receipts and pays the seller's 80%": of V that is held, after entries that come to nothing
+  handed-settles : rank (match-at b j .stage) < 2 → match-at b j .held ≡ value b (match-at b j) → (l : List Account) (es : List Entry) (k : ℕ) → k < b .«account_count»
+      → Posted (b .accounts) (pay (with-accounts b l (b .«account_count»)) (match-at b j .seller) (first-part (value b (match-at b j))) .accounts) es
+      → Within (b .«account_count») es → weight es ≤ most → all-entries es ≡ pos (first-part (value b (match-at b j)))
+      → Settlement b es (handed (with-accounts b l (b .«account_count»)) j (match-at b j) (value b (match-at b j)) k)
+  unfolding handed pass-receipts pass-turn pay
+  handed-settles h g l es k i d w o q =
       let m = match-at b j in
       let v = value b m in
       let y = first-part v in
       let part : y ≤ v = percent-down-most 80 v (omega arith) in
-      let new : Receipt → Receipt = λ z. record { owner = m .buyer; bonded = z .bonded; state = ReceiptState.Free } in
+      let new : Receipt → Receipt = λ z. record { owner = k; bonded = z .bonded; state = ReceiptState.Free } in
       record {
         number = j;
         there = p;
@@ -446,18 +467,75 @@ module _ (b : Book) (r : SoundTables b) (j : ℕ) (p : j < b .«match_count») w
         stage = Stage.Held;
         gained = 0;
         same = refl;
-        posted = post (b .accounts) (m .seller) (pos y) seller-cell (posted-none _);
+        posted = d;
         fund = omega arith;
-        within = (row .seller-there, tt);
-        small = omega (arith, value-few);
+        within = w;
+        small = o;
         gained-small = omega arith;
-        even = rw (row .funded-value s) (ap pos (omega arith));
-        later = omega (arith, ap rank s);
+        even = rw (g, q) (ap pos (omega arith));
+        later = omega arith;
         row = staged (v - y) Stage.Held (omega (arith, value-few)) tt row;
-        receipts = freed-table _ (free-all new j (λ z o. row .buyer-there) (λ z. refl) (r .core .receipts));
+        receipts = freed-table _ (free-all new j (λ z o. i) (λ z. refl) (r .core .receipts));
         others = λ k n. free-others new j (λ z. refl) k n (b .«receipt_count») (b .receipts) receipts-there;
         all-frozen = λ z. impossible (cc);
       }
+
+  part-few : first-part (value b (match-at b j)) ≤ 20_000_000_000_000
+  part-few = omega (arith, value-few, percent-down-most 80 (value b (match-at b j)) (omega arith))
+
+  pub hand-over-settles : match-at b j .stage ≡ Stage.Funded → Settlement b (hand-over-entries b (match-at b j)) (handed b j (match-at b j) (value b (match-at b j)) (match-at b j .buyer))
+  unfolding all-entries weight hand-over-entries pay value
+  hand-over-settles s =
+      let m = match-at b j in
+      handed-settles (omega (arith, ap rank s)) (row .paid-for-value (ap is-paid-for s)) (b .accounts) _ (m .buyer) (row .buyer-there)
+      (post (b .accounts) (m .seller) (pos (first-part (value b m))) seller-cell (posted-none _))
+      (row .seller-there, tt) (omega (arith, part-few)) (simp ring)
+
+  -- "Above zero, the winner pays the proceeds to the buyer and takes the receipts, the seller gets 80% and the rest is held as before."
+  sold-settles : match-at b j .stage ≡ Stage.Awaiting → (k x : ℕ) → k < b .«account_count» → x ≤ 1_000_000_000_000_000
+      → Settlement b (minus k x ∷ plus (match-at b j .buyer) x ∷ plus (match-at b j .seller) (first-part (value b (match-at b j))) ∷ []) (sold b j (match-at b j) k x)
+  unfolding all-entries weight sold pay charge value
+  sold-settles s k x i h =
+      let m = match-at b j in
+      let c = pay (charge b k x) (m .buyer) x in
+      handed-settles (omega (arith, ap rank s)) (row .paid-for-value (ap is-paid-for s)) (c .accounts) _ k i
+      (post (b .accounts) k (negℤ (pos x)) (omega (arith, all-there)) (post _ (m .buyer) (pos x) (simp length-set buyer-cell) (post _ (m .seller) (pos (first-part (value b m))) (simp length-set seller-cell) (posted-none _))))
+      (i, (row .buyer-there, (row .seller-there, tt))) (omega (arith, part-few, natAbs-neg (pos x))) (simp ring)
+
+  -- "the buyer gets V back, pays the seller 20% of V, down, the match is ended and the receipts are freed"
+  unsold-settles : match-at b j .stage ≡ Stage.Awaiting
+      → Settlement b (plus (match-at b j .buyer) (value b (match-at b j)) ∷ minus (match-at b j .buyer) (no-bid-part (value b (match-at b j))) ∷ plus (match-at b j .seller) (no-bid-part (value b (match-at b j))) ∷ []) (unsold b j (match-at b j) (value b (match-at b j)))
+  unfolding all-entries weight unsold free-again release-turn pay charge value
+  unsold-settles s =
+      let m = match-at b j in
+      let v = value b m in
+      let y = no-bid-part v in
+      let part : y ≤ v = percent-down-most 20 v (omega arith) in
+      let worth : m .held ≡ v = row .paid-for-value (ap is-paid-for s) in
+      let new : Receipt → Receipt = λ z. with-state z ReceiptState.Free in
+      record {
+        number = j;
+        there = p;
+        held = 0;
+        stage = Stage.Ended;
+        gained = 0;
+        same = refl;
+        posted = post (b .accounts) (m .buyer) (pos v) buyer-cell (post _ (m .buyer) (negℤ (pos y)) (simp length-set buyer-cell) (post _ (m .seller) (pos y) (simp length-set seller-cell) (posted-none _)));
+        fund = omega arith;
+        within = (row .buyer-there, (row .buyer-there, (row .seller-there, tt)));
+        small = omega (arith, value-few, natAbs-neg (pos y));
+        gained-small = omega arith;
+        even = rw worth (simp ring);
+        later = omega (arith, ap rank s);
+        row = staged 0 Stage.Ended (omega arith) refl row;
+        receipts = freed-table _ (free-all new j (λ z o. o) (λ z. refl) (r .core .receipts));
+        others = λ k n. free-others new j (λ z. refl) k n (b .«receipt_count») (b .receipts) receipts-there;
+        all-frozen = λ z. impossible (cc);
+      }
+
+  pub auction-settles : match-at b j .stage ≡ Stage.Awaiting → (k x : ℕ) → k < b .«account_count» → x ≤ 1_000_000_000_000_000 → Settlement b (auction-entries b (match-at b j) k x) (auctioned b j (match-at b j) k x)
+  unfolding auction-entries auctioned
+  auction-settles s k x i h = settlement-if (eqb x 0) (unsold-settles s) (sold-settles s k x i h)
 
 -- ---- sums over the matches
 

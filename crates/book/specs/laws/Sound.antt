@@ -8,7 +8,7 @@ use lib.ListN.{length, getD}
 use lib.IntN.{natAbs}
 use Rattle.book.specs.Types.{Side, Heat, Offer, ReceiptState, Stage, Lots, Account, Receipt, Match, Book}
 use Rattle.book.specs.Counting.{tally}
-use Rattle.book.specs.Rows.{blank-account, blank-receipt, blank-match, short-units, has-frozen}
+use Rattle.book.specs.Rows.{blank-account, blank-receipt, blank-match, short-units, has-frozen, is-paid-for}
 use Rattle.book.specs.Tables.{account-at, frozen-at}
 
 -- ---- rows
@@ -67,11 +67,11 @@ pub record SoundMatch (accounts day tonnes : ℕ) (board : Bool) (m : Match) : T
   pub prepaid-heat : m .stage ≡ Stage.Prepaid → m .heat ≡ Heat.Missing → ⊥
   pub closed-none : m .stage ≡ Stage.Closed → m .held ≡ 0
   pub ended-none : m .stage ≡ Stage.Ended → m .held ≡ 0
-  pub funded-value : m .stage ≡ Stage.Funded → m .held ≡ m .units * m .price * tonnes
-  pub funded-board : m .stage ≡ Stage.Funded → board ≡ false
+  pub paid-for-value : is-paid-for (m .stage) ≡ true → m .held ≡ m .units * m .price * tonnes
+  pub paid-for-board : is-paid-for (m .stage) ≡ true → board ≡ false
   pub held-few : m .held ≤ 22_000_000_000_000
 
--- a receipt of a book with so many accounts and so many of these matches: where it is frozen, then for a match that is paired or funded, whose seller's it is
+-- a receipt of a book with so many accounts and so many of these matches: where it is frozen, then for a match that is paired, funded or awaits auction, whose seller's it is
 pub record SoundReceipt (accounts count : ℕ) (matches : List Match) (r : Receipt) : Type 0 where
   pub owner-there : r .owner < accounts
   pub frozen-there : (j : ℕ) → r .state ≡ ReceiptState.Frozen j → j < count
@@ -135,5 +135,5 @@ pub record SoundTables (b : Book) : Type 0 where
 -- what holds of every reached book
 pub record Sound (b : Book) : Type 0 where
   pub tables : SoundTables b
-  pub cash-few : (k : ℕ) → natAbs (account-at b k .cash) ≤ 136_288_000_000_000_000
-  pub fund-few : b .fund ≤ 36_288_000_000_000_000
+  pub cash-few : (k : ℕ) → natAbs (account-at b k .cash) ≤ 1_290_700_000_000_000_000
+  pub fund-few : b .fund ≤ 1_190_700_000_000_000_000

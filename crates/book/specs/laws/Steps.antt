@@ -5,7 +5,7 @@ use Rattle.book.specs.Calls.{step}
 use Rattle.book.specs.Lists.{Reached, opened, called, after}
 use Rattle.book.specs.laws.Answered.{Answered, answered}
 use Rattle.book.specs.laws.Sound.{SoundTables}
-use Rattle.book.specs.laws.Settling.{settlement-tables, pay-settles, measure-settles, invoice-settles, terminate-settles, hand-over-settles}
+use Rattle.book.specs.laws.Settling.{settlement-tables, pay-settles, measure-settles, invoice-settles, terminate-settles, hand-over-settles, auction-settles}
 use Rattle.book.specs.laws.Calls.{opening-tables, join-tables, deposit-tables, withdraw-tables, trade-tables, lodge-tables, strike-tables, declare-tables, offer-tables, retract-tables, day-tables}
 use Rattle.book.specs.laws.Taking.{take-tables, close-tables}
 
@@ -28,6 +28,7 @@ sound-tables {b} (Answered.measures {j = j} {w = w} {q = q} {m = m} {s = s} {f =
 sound-tables {b} (Answered.invoices {j = j} g) r = settlement-tables (invoice-settles b r j (g .there) (g .in-hold)) r
 sound-tables {b} (Answered.terminates {j = j} {party = party} g) r = settlement-tables (terminate-settles b r j (g .there) (g .prepaid) party) r
 sound-tables {b} (Answered.hands-over {j = j} g) r = settlement-tables (hand-over-settles b r j (g .there) (g .funded)) r
+sound-tables {b} (Answered.auctions {j = j} {winner = k} {x = x} g) r = settlement-tables (auction-settles b r j (g .there) (g .awaiting) k x (g .winner-there) (g .few)) r
 
 pub step-tables : (b : Book) (c : Call) → SoundTables b → SoundTables (step b c .book)
 step-tables b c r = sound-tables (answered b c) r

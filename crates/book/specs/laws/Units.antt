@@ -25,7 +25,7 @@ use Rattle.book.specs.laws.Counting.{by-pick, sum-same, sum-set, sum-add
 use Rattle.book.specs.laws.Answered.{MayTrade, Answered, answered, of-opening}
 use Rattle.book.specs.laws.Sound.{SoundAccount, Core, SoundTables}
 use Rattle.book.specs.laws.Posting.{Posted}
-use Rattle.book.specs.laws.Settling.{Settlement, settlement-sum, pay-settles, measure-settles, invoice-settles, terminate-settles, hand-over-settles}
+use Rattle.book.specs.laws.Settling.{Settlement, settlement-sum, pay-settles, measure-settles, invoice-settles, terminate-settles, hand-over-settles, auction-settles}
 use Rattle.book.specs.laws.Calls.{cell, opening-tables, deposit-posted, withdraw-posted}
 use Rattle.book.specs.laws.Pairing.{Pairable, pair-core, off-units, paired-sum}
 use Rattle.book.specs.laws.Closing.{passes-keep, lapsed}
@@ -173,6 +173,7 @@ even {b} (Answered.measures {j = j} {w = w} {q = q} {m = m} {s = s} {f = f} {a =
 even {b} (Answered.invoices {j = j} g) r = even-settled r (invoice-settles b r j (g .there) (g .in-hold))
 even {b} (Answered.terminates {j = j} {party = party} g) r = even-settled r (terminate-settles b r j (g .there) (g .prepaid) party)
 even {b} (Answered.hands-over {j = j} g) r = even-settled r (hand-over-settles b r j (g .there) (g .funded))
+even {b} (Answered.auctions {j = j} {winner = k} {x = x} g) r = even-settled r (auction-settles b r j (g .there) (g .awaiting) k x (g .winner-there) (g .few))
 
 -- ---- lists
 

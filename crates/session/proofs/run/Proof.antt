@@ -59,7 +59,8 @@ replied c =
     (⊎-elim (λ w. rw (read, w .1 .given .1, w .5, w .6) (w .3 .ensures))
     (⊎-elim (λ w. rw (read, w .1 .given .1, w .5, w .6) (w .3 .ensures))
     (⊎-elim (λ w. rw (read, w .1 .given .1, w .5, w .6) (w .3 .ensures))
-    (λ w. rw (read, w .1 .given .1, w .5, w .6) (w .3 .ensures))))))))))))))))) (c .match2 .came)
+    (⊎-elim (λ w. rw (read, w .1 .given .1, w .5, w .6) (w .3 .ensures))
+    (λ w. rw (read, w .1 .given .1, w .5, w .6) (w .3 .ensures)))))))))))))))))) (c .match2 .came)
 
 pub run-spec : {M : Type 1} → statement M
 run-spec =
@@ -101,6 +102,7 @@ run-spec =
     let d = said .before .before .before .before .before .before .before .before .before .before .before .before .before .before in
     let put = c .before .before .put-reply2 in
     turn (d .before .before .loop .inv) (d .before .loop-test .taken) (d .line-end .ensures) _ (read .ensures) _ (refused said) _ _ (put .ensures .0) (put .ensures .1) (put .kept .0))
+    (λ c. search needs) (λ c κs. search needs)
     (λ c. search needs) (λ c κs. search needs)
     (λ c. search needs) (λ c κs. search needs)
     (λ c. search needs) (λ c κs. search needs)

@@ -13,8 +13,7 @@ handed-spec =
     (tie.spec
     (λ c κs. search needs)
     (λ c. search (needs, money))
-    (λ c. search needs)
     (λ c κs. search needs)
-    (λ c κs. search (needs, money))
+    (λ c κs. (search needs, (search (needs, money), search (needs, money))))
     (λ c κs. search needs)
-    (λ c. rw (c .set-stage .ensures, c .before .pay .ensures, c .before .before .pass-receipts .ensures, c .before .before .before .before .before .percent-down .ensures)))
+    (λ c. rw (c .set-stage .ensures, c .before .pay .ensures, c .before .before .pass-receipts .ensures, c .before .before .before .before .percent-down .ensures)))

@@ -8,10 +8,10 @@ use Rattle.settlement.proofs.pass_receipts.Statement.{statement}
 use Rattle.settlement.proofs.pass_receipts.Tie as tie
 
 abbrev Inv-loop : tie.InvT-loop
-Inv-loop count number buyer next₀ i₀ next i = Turned (pass-turn number buyer) count (iter count 0 (pass-turn number buyer) next₀) i next
+Inv-loop count number taker next₀ i₀ next i = Turned (pass-turn number taker) count (iter count 0 (pass-turn number taker) next₀) i next
 
 abbrev μ-loop : tie.MeasureT-loop
-μ-loop count number buyer next₀ i₀ next i = count - i
+μ-loop count number taker next₀ i₀ next i = count - i
 
 pub pass-receipts-spec : {M : Type 1} → statement M
 unfolding pass-turn

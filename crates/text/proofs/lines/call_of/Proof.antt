@@ -19,7 +19,7 @@ call-of-spec =
     (λ c. search (needs, call-counted, eq-eqb, ne-eqb))
     (λ c κs. search needs)
     (λ c. search (needs, call-counted, eq-eqb, ne-eqb))
-    (λ c. search (needs, call-counted, eq-eqb, ne-eqb))
+    (λ c κs. search needs)
     (λ c. search (needs, call-counted, eq-eqb, ne-eqb))
     (λ c. search needs)
     (λ c. search needs)
