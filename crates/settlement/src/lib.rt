@@ -81,30 +81,26 @@ fn set_stage(mut book: Book, number: u64, held: u64, stage: Stage) -> Book
 
 // ---- receipts of a match
 
-// Of the first receipts of a table, how many are frozen for a match.
-fn frozen_receipts(receipts: [Receipt; Book::RECEIPTS], count: usize, number: u64) -> u64
-    requires { ⌜ count ≤ 256 ⌝ }
-    ensures { λ r. ⌜ r ≡ tally count 0 (frozen-at receipts number) ⌝ }
-{
-    let mut frozen: u64 = 0;
-    for i in 0..count {
-        let r = receipts[i];
-        frozen = rows::counted(frozen, rows::is_frozen_for(r, number));
-    }
-    frozen
+// How many receipts are frozen for a match, and how many of them are ordinary.
+struct Frozen {
+    all: u64,
+    ordinary: u64,
 }
 
-// Of the first receipts of a table, how many are frozen for a match and ordinary.
-fn ordinary_receipts(receipts: [Receipt; Book::RECEIPTS], count: usize, number: u64) -> u64
+// Of the first receipts of a table, how many are frozen for a match, and how many of them are ordinary.
+fn frozen_receipts(receipts: [Receipt; Book::RECEIPTS], count: usize, number: u64) -> Frozen
     requires { ⌜ count ≤ 256 ⌝ }
-    ensures { λ r. ⌜ r ≡ tally count 0 (ordinary-at receipts number) ⌝ }
+    ensures { λ r. ⌜ r .all ≡ tally count 0 (frozen-at receipts number) ⌝ }
+    ensures { λ r. ⌜ r .ordinary ≡ tally count 0 (ordinary-at receipts number) ⌝ }
 {
+    let mut all: u64 = 0;
     let mut ordinary: u64 = 0;
     for i in 0..count {
         let r = receipts[i];
+        all = rows::counted(all, rows::is_frozen_for(r, number));
         ordinary = rows::counted(ordinary, rows::is_ordinary_for(r, number));
     }
-    ordinary
+    Frozen { all, ordinary }
 }
 
 // "its receipts are free again"
@@ -221,20 +217,11 @@ fn into_held(book: Book, number: u64, m: Match, v: u64, stage: Stage) -> Book
     set_stage(paid, number, v, stage)
 }
 
-// "a match of an overseas buyer with any ordinary receipt": by the buyer's residence and the receipts of the match.
-fn to_auction(
-    overseas: bool,
-    receipts: [Receipt; Book::RECEIPTS],
-    count: usize,
-    number: u64,
-) -> bool
-    requires { ⌜ count ≤ 256 ⌝ }
-    ensures { λ r. ⌜ r ≡ (overseas && ltb 0 (tally count 0 (ordinary-at receipts number))) ⌝ }
+// "a match of an overseas buyer with any ordinary receipt": by the buyer's residence and the receipts frozen for the match.
+fn to_auction(overseas: bool, frozen: Frozen) -> bool
+    ensures { λ r. ⌜ r ≡ (overseas && ltb 0 (frozen .ordinary)) ⌝ }
 {
-    if overseas {
-        return 0 < ordinary_receipts(receipts, count, number);
-    }
-    false
+    overseas & (0 < frozen.ordinary)
 }
 
 // "In a receipts book it gives the new stage 5, funded", or "stage 6, awaiting auction". "A board match goes from Pay to prepaid."
@@ -303,9 +290,9 @@ fn pay_due(book: Book, number: u64) -> Book
     let seller = book.accounts[i];
     let receipts = book.receipts;
     let frozen = frozen_receipts(receipts, book.receipt_count, number);
-    let auction = to_auction(buyer.overseas, receipts, book.receipt_count, number);
+    let auction = to_auction(buyer.overseas, frozen);
     let x = fault(buyer.fit, rows::cash_below(buyer, v), book.rate);
-    let y = fault(seller.fit, seller_lacks(m, book.board, frozen), book.rate);
+    let y = fault(seller.fit, seller_lacks(m, book.board, frozen.all), book.rate);
     paid(book, number, m, v, auction, x, y)
 }
 

@@ -27,5 +27,5 @@ pay-due-spec =
     (λ c κs. search calls)
     (λ c κs. search needs)
     (λ c κs. search calls)
-    (λ c κs. (search (calls, money), (c .before .before .before .before .to-auction .ensures, (search (calls, money), search (calls, money)))))
-    (λ c. rw (c .paid .ensures, c .before .fault2 .ensures .0, c .before .before .seller-lacks .ensures, c .before .before .before .fault .ensures .0, c .before .before .before .before .cash-below .ensures, c .before .before .before .before .before .before .frozen-receipts .ensures, c .before .before .before .before .before .before .before .before .before .before .before .before .value .ensures .0)))
+    (λ c κs. (search (calls, money), (rw (c .before .before .before .before .to-auction .ensures, c .before .before .before .before .before .frozen-receipts .ensures .1), (search (calls, money), search (calls, money)))))
+    (λ c. rw (c .paid .ensures, c .before .fault2 .ensures .0, c .before .before .seller-lacks .ensures, c .before .before .before .fault .ensures .0, c .before .before .before .before .cash-below .ensures, c .before .before .before .before .before .before .frozen-receipts .ensures .0, c .before .before .before .before .before .before .before .before .before .before .before .before .value .ensures .0)))
