@@ -413,14 +413,6 @@ pub fn is_struck(r: Receipt) -> bool
     }
 }
 
-// An account's number, as rows hold it.
-pub fn account_number(number: u64) -> u8
-    requires { ⌜ number < 32 ⌝ }
-    ensures { λ r. ⌜ r ≡ number ⌝ }
-{
-    number as u8
-}
-
 // Whether a receipt is frozen for this match.
 pub fn is_frozen_for(r: Receipt, number: u64) -> bool
     ensures { λ t. ⌜ t ≡ is-frozen-for number (r .state) ⌝ }
@@ -492,14 +484,14 @@ pub fn released(r: Receipt, number: u64) -> Receipt
     r
 }
 
-// The receipt free and the buyer's, where it is frozen for this match.
-pub fn passed(r: Receipt, number: u64, buyer: u64) -> Receipt
-    requires { ⌜ buyer < 32 ⌝ }
-    ensures { λ q. ⌜ q ≡ passed number buyer r ⌝ }
+// The receipt free and another's, where it is frozen for this match.
+pub fn passed(r: Receipt, number: u64, taker: u64) -> Receipt
+    requires { ⌜ taker < 32 ⌝ }
+    ensures { λ q. ⌜ q ≡ passed number taker r ⌝ }
 {
     if is_frozen_for(r, number) {
         return Receipt {
-            owner: buyer as u8,
+            owner: taker as u8,
             bonded: r.bonded,
             state: ReceiptState::Free,
         };
@@ -638,7 +630,15 @@ pub fn is_awaiting(m: Match) -> bool
     }
 }
 
-// ---- the place of a row
+// ---- the number and the place of a row
+
+// An account's number, as rows hold it.
+pub fn account_number(number: u64) -> u8
+    requires { ⌜ number < 32 ⌝ }
+    ensures { λ r. ⌜ (r ≡ number) × (r < 32) ⌝ }
+{
+    number as u8
+}
 
 // The place of an account's row: its number where the table has such a row, else 0, so that it can always be read.
 pub fn account_place(number: u64) -> usize

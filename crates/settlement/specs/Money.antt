@@ -156,28 +156,26 @@ pub record Due (b : Book) (j : ℕ) (m : Match) (v : ℕ) : Type 0 where
   pub deal : Deal b m v
   pub room : Room 8 b
 
--- what handing over match j of a book asks for, m its row, v its worth and k who takes the receipts
-pub record Handing (b : Book) (j : ℕ) (m : Match) (v k : ℕ) : Type 0 where
+-- what handing over match j of a book asks for, m its row and k who takes the receipts
+pub record Handing (b : Book) (j : ℕ) (m : Match) (k : ℕ) : Type 0 where
   pub number-there : j < 256
   pub receipts-few : b .«receipt_count» ≤ 256
   pub seller-there : m .seller < 32
   pub taker-there : k < 32
-  pub small : v ≤ most-paid
   pub room : Room 1 b
 
 module _ (b : Book) (j : ℕ) (m : Match) (v : ℕ) (d : Due b j m v) where
-  pub handing-due : Handing b j m v (m .buyer)
-  handing-due = record { number-there = d .number-there; receipts-few = d .receipts-few; seller-there = d .deal .seller-there; taker-there = d .deal .buyer-there; small = d .deal .small; room = room-less 1 8 b (d .room) (omega arith) }
+  pub handing-due : Handing b j m (m .buyer)
+  handing-due = record { number-there = d .number-there; receipts-few = d .receipts-few; seller-there = d .deal .seller-there; taker-there = d .deal .buyer-there; room = room-less 1 8 b (d .room) (omega arith) }
 
   -- after account i paid x to the buyer
-  pub handing-sold : (c f : Book) (i k x : ℕ) → c ≡ charge b i x → f ≡ pay c (m .buyer) x → x ≤ most-paid → k < 32 → Handing f j m v k
+  pub handing-sold : (c f : Book) (i k x : ℕ) → c ≡ charge b i x → f ≡ pay c (m .buyer) x → x ≤ most-paid → k < 32 → Handing f j m k
   unfolding pay charge
   handing-sold c f i k x e g h t = record {
     number-there = d .number-there;
     receipts-few = rw (g, e) (d .receipts-few);
     seller-there = d .deal .seller-there;
     taker-there = t;
-    small = d .deal .small;
     room = room-paid 1 c f (m .buyer) x g h (room-charged 2 b c i x e h (room-less 3 8 b (d .room) (omega arith)));
   }
 

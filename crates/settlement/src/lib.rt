@@ -292,7 +292,11 @@ fn pay_due(book: Book, number: u64) -> Book
     let frozen = frozen_receipts(receipts, book.receipt_count, number);
     let auction = to_auction(buyer.overseas, frozen);
     let x = fault(buyer.fit, rows::cash_below(buyer, v), book.rate);
-    let y = fault(seller.fit, seller_lacks(m, book.board, frozen.all), book.rate);
+    let y = fault(
+        seller.fit,
+        seller_lacks(m, book.board, frozen.all),
+        book.rate,
+    );
     paid(book, number, m, v, auction, x, y)
 }
 
@@ -535,14 +539,15 @@ pub fn terminate(book: Book, number: u64, party: u64) -> Outcome
 // ---- Hand over
 
 // "passes the receipts and pays the seller's 80%": "the rest is held"; the receipts pass to one who takes them, "free; stage held."
-fn handed(book: Book, number: u64, m: Match, v: u64, taker: u64) -> Book
-    requires { ⌜ Handing book number m v taker ⌝ }
+fn handed(book: Book, number: u64, m: Match, v: u64, taker: u8) -> Book
+    requires { ⌜ Handing book number m taker ⌝ }
+    requires { ⌜ v ≤ most-paid ⌝ }
     ensures { λ r. ⌜ r ≡ handed book number m v taker ⌝ }
 {
     let first = percent_down(80, v);
     let rest = v - first;
     let receipts = book.receipts;
-    let passed = pass_receipts(receipts, book.receipt_count, number, taker);
+    let passed = pass_receipts(receipts, book.receipt_count, number, taker as u64);
     let mut given = pay(book, m.seller, first);
     given.receipts = passed;
     set_stage(given, number, rest, Stage::Held)
@@ -578,7 +583,7 @@ pub fn hand_over(book: Book, number: u64) -> Outcome
         };
     }
     let v = value(m, book.tonnes);
-    let next = handed(book, number, m, v, m.buyer as u64);
+    let next = handed(book, number, m, v, m.buyer);
     Outcome {
         answer: Answer::Accepted(0),
         book: next,
@@ -594,9 +599,10 @@ fn sold(book: Book, number: u64, m: Match, v: u64, winner: u64, proceeds: u64) -
     requires { ⌜ proceeds ≤ most-paid ⌝ }
     ensures { λ r. ⌜ r ≡ sold book number m winner proceeds ⌝ }
 {
-    let charged = charge(book, rows::account_number(winner), proceeds);
+    let taker = rows::account_number(winner);
+    let charged = charge(book, taker, proceeds);
     let paid = pay(charged, m.buyer, proceeds);
-    handed(paid, number, m, v, winner)
+    handed(paid, number, m, v, taker)
 }
 
 // "the buyer gets V back, pays the seller 20% of V, down, the match is ended and the receipts are freed"
