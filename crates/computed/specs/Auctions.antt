@@ -150,11 +150,11 @@ decided =
     ∷ line (Call.HandOver 1) (ok 0)
     ∷ []
 
-answers-seller : play 0 1 20 73 (five ++ decided) ≡ five ++ decided
+answers-seller : play 0 1 35 73 (five ++ decided) ≡ five ++ decided
 unfolding play
 answers-seller = refl
 
-stages : ledger-after 0 1 20 73 five
+stages : ledger-after 0 1 35 73 five
     ≡ account 0 (pos 47) 0 0
     ∷ account 1 (pos 0) 0 0
     ∷ account 2 (pos 0) 0 0
@@ -174,7 +174,7 @@ stages : ledger-after 0 1 20 73 five
 unfolding ledger-after
 stages = refl
 
-ledger-seller : ledger-after 0 1 20 73 (five ++ decided)
+ledger-seller : ledger-after 0 1 35 73 (five ++ decided)
     ≡ account 0 (pos 188) 0 0
     ∷ account 1 (pos 106) 0 0
     ∷ account 2 (pos 0) 0 0
@@ -194,7 +194,7 @@ ledger-seller : ledger-after 0 1 20 73 (five ++ decided)
 unfolding ledger-after
 ledger-seller = refl
 
-sums-seller : sums-after 0 1 20 73 (five ++ decided)
+sums-seller : sums-after 0 1 35 73 (five ++ decided)
     ≡ record { deposits = 332; withdrawals = 0; traded = 5; cash = pos 287; held = 45; in-matches = 5; long = 0; short = 0; entered = pos 188 ∷ pos 106 ∷ pos 0 ∷ owes 7 ∷ [] }
 unfolding sums-after
 sums-seller = refl

@@ -165,8 +165,8 @@ pub record Handing (b : Book) (j : ℕ) (m : Match) (k : ℕ) : Type 0 where
   pub room : Room 1 b
 
 module _ (b : Book) (j : ℕ) (m : Match) (v : ℕ) (d : Due b j m v) where
-  pub handing-due : Handing b j m (m .buyer)
-  handing-due = record { number-there = d .number-there; receipts-few = d .receipts-few; seller-there = d .deal .seller-there; taker-there = d .deal .buyer-there; room = room-less 1 8 b (d .room) (omega arith) }
+  pub handing-due : (k : ℕ) → k < 32 → Handing b j m k
+  handing-due k t = record { number-there = d .number-there; receipts-few = d .receipts-few; seller-there = d .deal .seller-there; taker-there = t; room = room-less 1 8 b (d .room) (omega arith) }
 
   -- after account i paid x to the buyer
   pub handing-sold : (c f : Book) (i k x : ℕ) → c ≡ charge b i x → f ≡ pay c (m .buyer) x → x ≤ most-paid → k < 32 → Handing f j m k

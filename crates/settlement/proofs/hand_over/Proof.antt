@@ -31,5 +31,9 @@ hand-over-spec =
     (λ c κs. (c .before .before .pre, rw (c .before .match-place .ensures .0)))
     (λ c. refused-is _ (Call.HandOver _) (c .before .hand-over-refusal .ensures) (c .if1 .taken))
     (λ c κs. let t = may c .0 .there in rw (found c) (search (calls, t)))
-    (λ c κs. let e = c .before in let v = c .value .ensures in (rw (found e) (handing-due _ _ _ _ (due-sound _ (e .before .before .before .before .pre) _ (may e .0 .there) _ (rw (found e) at (v .0)) (v .1))), v .1))
+    (λ c κs.
+    let e = c .before in
+    let v = c .value .ensures in
+    let d = due-sound _ (e .before .before .before .before .pre) _ (may e .0 .there) _ (rw (found e) at (v .0)) (v .1) in
+    (rw (found e) (handing-due _ _ _ _ d _ (search (d .deal))), v .1))
     (λ c. let e = c .before .before in rw (c .handed .ensures, c .before .value .ensures .0, found e) (may e .1)))
