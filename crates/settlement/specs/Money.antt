@@ -225,4 +225,4 @@ any-of-six false false false true x y n b r z e = e
 any-of-six false false false false true y n b r z e = e
 any-of-six false false false false false y n b r z e = e
 
-pub ruleset money = (price-fits, value-fits, value-small, tonnes-fit, weight-fits, weight-small, amount-small, part-most, part-small, percent-small, room-cash, room-less, room-paid, room-charged, room-fined, deal-paid, room-sound, due-sound, handing-due, handing-sold, heat-small)
+pub ruleset money = (price-fits, value-fits, value-small, tonnes-fit, weight-fits, weight-small, amount-small, part-most, part-small, percent-small, room-cash, room-less, room-paid, room-charged, room-fined, deal-paid, room-sound, due-sound, heat-small)

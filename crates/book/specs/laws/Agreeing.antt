@@ -1,5 +1,5 @@
--- Pay, with Hand over directly after it in a receipts book without a fault, gives what Settle gives. By cases on the tests, the faults and the kind of
--- book. Assumes nothing.
+-- Pay, with Hand over directly after it in a receipts book without a fault, gives what Settle gives, but for a match that goes to auction. By cases on the
+-- tests, the faults, the kind of book and whether it goes there. Assumes nothing.
 use mathlib.Core.Path.{_≡_, refl, ap}
 use mathlib.Core.Bool.{Bool, true, false, not, _&&_}
 use Prim.Native.Nat.{ℕ, _-_, _<_}

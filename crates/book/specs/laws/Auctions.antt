@@ -2,14 +2,14 @@
 -- one, and zero where there is none. Assumes nothing.
 use mathlib.Core.Path.{_≡_, refl, sym, ap, _∙_}
 use mathlib.Core.Bool.{Bool, true, false, not, _&&_}
-use Prim.Native.Nat.{ℕ, zero, suc, _+_, _≤_, _<_}
+use Prim.Native.Nat.{ℕ}
 use native.Mathlib.Omega.{arith}
 use lib.Dec.{ltb, eqb}
 use lib.Seq.{getD-set-same}
 use borrow.Author.Tests.{eqb-true, eq-eqb, lt-ltb, not-true}
 use Rattle.coal.specs.Choice.{pick}
 use Rattle.book.specs.Types.{ReceiptState, Stage, Receipt, Book, Answer, Outcome, Fault}
-use Rattle.book.specs.Counting.{tally, one-if}
+use Rattle.book.specs.Counting.{tally}
 use Rattle.book.specs.Rows.{blank-match, is-frozen-for, is-ordinary-for, with-held}
 use Rattle.book.specs.Tables.{account-at, receipt-at, match-at, charge, ordinary-at, ordinary-receipts}
 use Rattle.book.specs.Answers.{is-accepted, refusal-of}
@@ -17,19 +17,11 @@ use Rattle.book.specs.Settlement.{value, buyer-fault, seller-fault, into
 use Rattle.book.specs.Lists.{Reached}
 use Rattle.book.specs.Agreement.{is-faultless, without-fault}
 use Rattle.book.specs.Auctions.{stage-paid, Auctions}
-use Rattle.book.specs.laws.Counting.{and-left, and-right, by-eq, tally-none}
+use Rattle.book.specs.laws.Counting.{and-left, and-right, tally-none, tally-some}
 use Rattle.book.specs.laws.Answered.{pay-accepted}
 use Rattle.book.specs.laws.Steps.{reached-tables}
 
--- ---- the count
-
-tally-some : (p : ℕ → Bool) (n i k : ℕ) → i ≤ k → k < i + n → p k ≡ true → 0 < tally n i p
-unfolding tally
-tally-some p zero i k a b e = absurd (omega arith)
-tally-some p (suc n) i k a b e =
-    by-eq k i
-    (λ q. let one : one-if (p i) ≡ 1 = ap one-if (ap p (sym q) ∙ e) in omega (arith, one))
-    (λ q. omega (arith, tally-some p n (i + 1) k (omega arith) (omega arith) e))
+-- ---- a receipt
 
 ordinary : (j : ℕ) (r : Receipt) → r .state ≡ ReceiptState.Frozen j → r .bonded ≡ false → is-ordinary-for j r ≡ true
 ordinary j r e f = rw (e, f, eq-eqb j j refl)

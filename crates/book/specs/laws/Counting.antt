@@ -138,6 +138,15 @@ tally-same p q n i h = tally-sum p n i ∙ sum-same _ _ n i (λ k a b. ap one-if
 pub tally-none : (p : ℕ → Bool) (n i : ℕ) → ((k : ℕ) → i ≤ k → k < i + n → p k ≡ false) → tally n i p ≡ 0
 tally-none p n i h = tally-sum p n i ∙ sum-none _ n i (λ k a b. ap one-if (h k a b))
 
+-- one that is met is counted
+pub tally-some : (p : ℕ → Bool) (n i k : ℕ) → i ≤ k → k < i + n → p k ≡ true → 0 < tally n i p
+unfolding tally
+tally-some p zero i k a b e = absurd (omega arith)
+tally-some p (suc n) i k a b e =
+    by-eq k i
+    (λ q. let one : one-if (p i) ≡ 1 = ap one-if (ap p (sym q) ∙ e) in omega (arith, one))
+    (λ q. omega (arith, tally-some p n (i + 1) k (omega arith) (omega arith) e))
+
 -- a test that holds where one of two others does, which exclude each other
 pub tally-plus : (p q r : ℕ → Bool) (n i : ℕ) → ((k : ℕ) → i ≤ k → k < i + n → one-if (p k) ≡ one-if (q k) + one-if (r k)) → tally n i p ≡ tally n i q + tally n i r
 tally-plus p q r n i h = omega (arith, tally-sum p n i, tally-sum q n i, tally-sum r n i, sum-plus (λ k. one-if (p k)) (λ k. one-if (q k)) (λ k. one-if (r k)) n i h)
