@@ -613,8 +613,8 @@ fn unsold(book: Book, number: u64, m: Match, v: u64) -> Book
     let part = percent_down(20, v);
     let receipts = book.receipts;
     let freed = free_again(receipts, book.receipt_count, number);
-    let back = pay(book, m.buyer, v);
-    let charged = charge(back, m.buyer, part);
+    let returned = pay(book, m.buyer, v);
+    let charged = charge(returned, m.buyer, part);
     let mut next = pay(charged, m.seller, part);
     next.receipts = freed;
     set_stage(next, number, 0, Stage::Ended)
