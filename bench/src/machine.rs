@@ -144,7 +144,7 @@ fn percent_half_up(percent: u64, n: u128) -> u128 {
     half_up(n * percent as u128, 100)
 }
 
-/// Coal price, steps 1 to 5; step 2 rounds an exact half to even.
+/// Coal price, steps 1 to 5: step 2 rounds an exact half to even, and step 5 takes 80% once, if volatiles or ash are outside (document 02, Jobs 3 and 8).
 pub fn coal_price(p: u64, h: u64, q: u64, s: u64, f: u64, a: u64) -> u128 {
     let mut e = if q >= h + 300 { h + 300 } else { q };
     if e > 6_000 {
@@ -169,10 +169,7 @@ pub fn coal_price(p: u64, h: u64, q: u64, s: u64, f: u64, a: u64) -> u128 {
     } else if s > 150 {
         x = percent_half_up(80, x);
     }
-    if !(3_000..=4_200).contains(&f) {
-        x = percent_half_up(80, x);
-    }
-    if a > 3_000 {
+    if !(3_000..=4_200).contains(&f) || a > 3_000 {
         x = percent_half_up(80, x);
     }
     x

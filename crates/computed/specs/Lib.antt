@@ -17,4 +17,5 @@ pub mod HeatLate
 pub mod Measured
 pub mod Over
 pub mod Halves
+pub mod Deductions
 pub mod Tables

@@ -93,8 +93,8 @@ book-of kind t r p = opening kind t r p .book
 -- the answers of a script's calls from an opening
 unfoldable pub play : ℕ → ℕ → ℕ → ℕ → List Line → List Line
 unfolding
-    coal.half-up coal.half-even coal.percent-down coal.percent-half-up coal.settled-heat coal.price-by-heat coal.less-short-heat coal.less-sulphur coal.by-sulphur coal.by-volatiles
-    coal.by-ash coal.coal-price coal.weight-within coal.by-moisture coal.coal-weight coal.amount
+    coal.half-up coal.half-even coal.percent-down coal.percent-half-up coal.settled-heat coal.price-by-heat coal.less-short-heat coal.less-sulphur coal.by-sulphur coal.outside
+    coal.by-volatiles-or-ash coal.coal-price coal.weight-within coal.by-moisture coal.coal-weight coal.amount
     counting.iter counting.lowest counting.tally counting.sum counting.total counting.those
     tables.pay tables.charge tables.free-at tables.free-receipts tables.frozen-at tables.frozen-receipts opening next-day
     accounts.join accounts.deposit accounts.withdraw accounts.trade receipts.lodge receipts.strike pairing.freeze-turn pairing.freeze pairing.pair
