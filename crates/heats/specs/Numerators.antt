@@ -2,7 +2,7 @@
 use mathlib.Core.Path.{_≡_}
 use mathlib.Core.Bool.{Bool, true, false}
 use mathlib.Core.List.{List}
-use Prim.Native.Nat.{ℕ, _+_, _-_, _*_, _≤_, _<_}
+use Prim.Native.Nat.{ℕ, _-_, _*_, _≤_}
 use native.Mathlib.Nat.{add-sub-of-le, mul-le-mul}
 use native.Mathlib.Omega.{arith}
 use lib.Dec.{leb}
@@ -32,12 +32,17 @@ pub entry : {l : List ℕ} → l ≡ heat-table → (e : ℕ) → 4_300 ≤ e �
 unfolding heat-table
 entry t e h k = rw (t, each-at numerator 1_701 4_300 (e - 4_300) (omega arith), add-sub-of-le h)
 
-factor-most : (t u : Bool) → factor t u ≤ 900_000
-factor-most true u = omega arith
-factor-most false true = omega arith
-factor-most false false = omega arith
+factor-within : (t u : Bool) → (845_570 ≤ factor t u) × (factor t u ≤ 900_000)
+factor-within true u = (omega arith, omega arith)
+factor-within false true = (omega arith, omega arith)
+factor-within false false = (omega arith, omega arith)
 
--- no entry is above that of 6,000
-pub numerator-most : (e : ℕ) → e ≤ 6_000 → numerator e ≤ 5_400_000_000
-unfolding numerator
-numerator-most e h = mul-le-mul h (factor-most (leb 5_300 e) (leb 4_800 e))
+-- no entry is below that of 4,300, and none above that of 6,000
+module _ (e : ℕ) where
+  pub numerator-least : 4_300 ≤ e → 3_635_951_000 ≤ numerator e
+  unfolding numerator
+  numerator-least h = mul-le-mul h (factor-within (leb 5_300 e) (leb 4_800 e) .0)
+
+  pub numerator-most : e ≤ 6_000 → numerator e ≤ 5_400_000_000
+  unfolding numerator
+  numerator-most h = mul-le-mul h (factor-within (leb 5_300 e) (leb 4_800 e) .1)

@@ -1,7 +1,7 @@
 // The heat table of document 02's Job 9: for each heat from 4,300 to 6,000 the numerator of step 2 of the coal price.
 ghost use mathlib.Core.Path.{_≡_};
 ghost use Prim.Native.Nat.{_≤_};
-ghost use Rattle.heats.specs.Numerators.{numerator};
+ghost use Rattle.heats.specs.Numerators.{numerator, heat-table};
 
 // "1,701 entries over the common denominator 4,950,000,000", "lowest heat first": those of heats 4,300 to 6,000.
 const NUMERATORS: [u64; 1_701] = [
@@ -1711,11 +1711,19 @@ const NUMERATORS: [u64; 1_701] = [
 // "the common denominator".
 pub const DENOMINATOR: u64 = 4_950_000_000;
 
-// The numerator of a heat, read from the table.
+// The whole table.
+pub fn numerators() -> [u64; 1_701]
+    ensures { λ r. ⌜ r ≡ heat-table ⌝ }
+{
+    NUMERATORS
+}
+
+// The numerator of a heat, from the table.
 pub fn numerator(e: u64) -> u64
     requires { ⌜ 4_300 ≤ e ⌝ }
     requires { ⌜ e ≤ 6_000 ⌝ }
     ensures { λ r. ⌜ r ≡ numerator e ⌝ }
 {
-    NUMERATORS[(e - 4_300) as usize]
+    let table = numerators();
+    table[(e - 4_300) as usize]
 }

@@ -15,4 +15,5 @@ pub use print::last_digit;
 pub use print::put_answer;
 pub use print::put_byte;
 pub use print::put_bytes;
+pub use print::put_digits;
 pub use print::put_next;

@@ -34,7 +34,8 @@ pub fn last_digit(n: u64) -> u8
     48 + (n % 10) as u8
 }
 
-fn put_digits(out: &mut [u8], at: usize, n: u64) -> usize
+// A number's digits, with room for just these.
+pub fn put_digits(out: &mut [u8], at: usize, n: u64) -> usize
     requires { ⌜ at + length (digits n) ≤ length (now out) ⌝ }
     ensures { λ r. ⌜ Put (now (out .entry)) (now (out .exit)) at r (digits n) ⌝ }
 {
