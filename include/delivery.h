@@ -1,4 +1,4 @@
-/* The delivery book of one contract month: one session from a buffer to a buffer, or the page of the book after it.
+/* The delivery book of one contract month: one session from a buffer to a buffer, or the page of the book after it; and the heat table of the coal price.
    Link with target/staticlib/libfirmware.a, which `rt staticlib firmware` writes. */
 #ifndef DELIVERY_H
 #define DELIVERY_H
@@ -24,5 +24,13 @@ size_t delivery_session(const uint8_t *input, size_t input_length, uint8_t *outp
    where later bytes stay as they were; returns how many bytes it wrote. An output that is too short for them is refused: 0 is returned and nothing is
    written. The two buffers must not overlap. */
 size_t delivery_page(const uint8_t *input, size_t input_length, uint8_t *output, size_t output_length);
+
+/* The length of the heat table: 1,701 lines of 11 bytes. */
+#define DELIVERY_HEAT_TABLE_ROOM 18711
+
+/* Writes the heat table from the start of output, where later bytes stay as they were: for each heat from 4,300 to 6,000, lowest first, the numerator of its price over
+   4,950,000,000, ten decimal digits and a newline. Step 2 of the coal price at these heats is the match's price times the numerator, divided by 4,950,000,000, an exact
+   half to the even fen. Returns DELIVERY_HEAT_TABLE_ROOM. A shorter output is refused: 0 is returned and nothing is written. */
+size_t delivery_heat_table(uint8_t *output, size_t output_length);
 
 #endif

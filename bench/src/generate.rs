@@ -215,6 +215,11 @@ pub fn short_session(seed: u64, calls: usize) -> Vec<u8> {
     out
 }
 
+/// A coal port's session in which a cargo of one tonne is measured at this heat, at this price: its 12 lines are accepted.
+pub fn measured(heat: u64, price: u64) -> Vec<u8> {
+    format!("0 1 1 20 {price}\n1 0 1\n1 0 1\n2 0 1000000\n7 1 5800\n4 0 1 1\n8 1 1\n10 0 1\n11 1\n11 1\n13 0\n14 0 1000 {heat} 0 0 3500 1000\n").into_bytes()
+}
+
 /// Damage: bytes changed, put in, taken out, lines blanked or cut, the end lost.
 pub fn damage(r: &mut Random, text: &mut Vec<u8>) {
     for _ in 0..1 + r.below(8) {

@@ -175,6 +175,20 @@ pub fn coal_price(p: u64, h: u64, q: u64, s: u64, f: u64, a: u64) -> u128 {
     x
 }
 
+/// The numerator of a heat from 4,300 on, over 4,950,000,000 (document 02, Job 9). `coal_price` stays by the bands, so that the proved price, which is looked up, is compared with them.
+pub fn numerator(heat: u64) -> u64 {
+    match heat {
+        5_300.. => heat * 900_000,
+        4_800.. => heat * 868_032,
+        _ => heat * 845_570,
+    }
+}
+
+/// The heat table as it is printed: heats 4,300 to 6,000, one decimal number to a line, lowest heat first.
+pub fn heat_table() -> String {
+    (4_300..=6_000).map(|heat| format!("{}\n", numerator(heat))).collect()
+}
+
 /// The weight that is paid for, and the kilograms over: those above D + 500,000, before moisture (document 02, Job 2).
 pub fn coal_weight(d: u64, w: u64, m: u64) -> (u128, u64) {
     let least = d.saturating_sub(500_000);

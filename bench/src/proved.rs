@@ -3,6 +3,7 @@
 extern "C" {
     fn delivery_session(input: *const u8, input_length: usize, output: *mut u8, output_length: usize) -> usize;
     fn delivery_page(input: *const u8, input_length: usize, output: *mut u8, output_length: usize) -> usize;
+    fn delivery_heat_table(output: *mut u8, output_length: usize) -> usize;
 }
 
 /// Room for the output of every session.
@@ -32,4 +33,10 @@ pub fn page(input: &[u8], out: &mut Vec<u8>) -> usize {
         out.resize(PAGE_ROOM, 0);
     }
     lend(input, out)
+}
+
+/// The heat table into a lent buffer of any length; answers how many bytes it wrote.
+pub fn heat_table(out: &mut [u8]) -> usize {
+    // The slice is valid for its length, and the function writes only within it.
+    unsafe { delivery_heat_table(out.as_mut_ptr(), out.len()) }
 }
