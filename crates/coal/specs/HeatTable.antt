@@ -29,7 +29,7 @@ extended n d k p h = same (half-even (n * k) (d * k)) (nearest-even (n * k) (d *
         }
 
 module _ (p e : ℕ) where
-  -- by the rule of the numerators
+  -- by the rule of the numerators, at every heat from 4,300 on
   pub by-numerator : 4_300 ≤ e → half-even (p * numerator e) denominator ≡ price-by-heat p e
   unfolding numerator price-by-heat
   by-numerator h = cases (leb 5_300 e) (leb 4_800 e)
