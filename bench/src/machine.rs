@@ -175,7 +175,7 @@ pub fn coal_price(p: u64, h: u64, q: u64, s: u64, f: u64, a: u64) -> u128 {
     x
 }
 
-/// The numerator of a heat from 4,300 on, over 4,950,000,000 (document 02, Job 9). `coal_price` stays by the bands, so that the proved price, which is looked up, is compared with them.
+/// The numerator of a heat from 4,300 on, over 4,950,000,000 (document 02, Job 9). `coal_price` is by the bands, so that the proved price, which is looked up, is compared with them.
 pub fn numerator(heat: u64) -> u64 {
     match heat {
         5_300.. => heat * 900_000,

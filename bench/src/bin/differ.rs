@@ -33,8 +33,8 @@ fn heats_agree(ours: &mut Vec<u8>, plain: &mut Vec<u8>) -> bool {
             let text = measured(heat, price);
             let n = bench::proved::run(&text, ours);
             let m = bench::session::run(&text, plain);
-            let measures = plain[..m].split(|&c| c == b'\n').filter(|l| l.starts_with(b"ok ")).count();
-            ours[..n] == plain[..m] && measures == 12
+            let accepted = plain[..m].split(|&c| c == b'\n').filter(|l| l.starts_with(b"ok ")).count();
+            ours[..n] == plain[..m] && accepted == 12
         })
     })
 }
