@@ -1,4 +1,6 @@
 // The opening of a book, and calls 1 to 4 and 11: Join, Deposit, Withdraw, Trade, Day.
+#![tactic(auto)]
+
 ghost use Rattle.std.specs.Prelude.{◌≡◌};
 ghost use Rattle.book.specs.Answers.{refuse, refusal_of};
 ghost use Rattle.book.specs.Opening.{no_book, opening, next_day};

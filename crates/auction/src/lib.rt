@@ -1,4 +1,6 @@
 // Call 18: Auction.
+#![tactic(auto)]
+
 ghost use Rattle.std.specs.Prelude.{◌≡◌, ◌&&◌, ◌≤◌, ◌<◌, ltb, pos};
 ghost use Rattle.std.specs.Int.Signed.{lt_z};
 ghost use Rattle.book.specs.Answers.{refusal_of};

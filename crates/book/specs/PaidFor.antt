@@ -17,5 +17,5 @@ pub record PaidFor (b : Book) (j : ℕ) : Type 0 where
   pub sellers : (i : ℕ) → i < b.receipt_count → (receipt_at b i).state ≡ ReceiptState.Frozen j → (receipt_at b i).owner ≡ (match_at b j).seller
 
 -- of every reached book and every match of it that is funded or awaits auction
-abbrev pub PaidFor : Type 0
-PaidFor = (b : Book) → Reached b → (j : ℕ) → j < b.match_count → is_paid_for (match_at b j).stage ≡ true → PaidFor b j
+abbrev pub EachPaidFor : Type 0
+EachPaidFor = (b : Book) → Reached b → (j : ℕ) → j < b.match_count → is_paid_for (match_at b j).stage ≡ true → PaidFor b j

@@ -1,9 +1,11 @@
 // The delivery book of one contract month: its types, and the empty book.
+#![tactic(auto)]
+
 ghost use Rattle.std.specs.Prelude.{◌≡◌};
 ghost use Rattle.book.specs.Opening.{fresh};
 
 // "a side (0 none, 1 long, 2 short)"
-#[derive(Drop)]
+#[derive(Clone, Copy)]
 pub enum Side {
     Flat,
     Long,
@@ -11,21 +13,21 @@ pub enum Side {
 }
 
 // "declared heat or missing"
-#[derive(Drop)]
+#[derive(Clone, Copy)]
 pub enum Heat {
     Missing,
     Declared(u16),
 }
 
 // "offered units or missing"
-#[derive(Drop)]
+#[derive(Clone, Copy)]
 pub enum Offer {
     Missing,
     Units(u16),
 }
 
 // "state (0 free, 1 frozen for a match, 2 struck, keeping its last owner)"
-#[derive(Drop)]
+#[derive(Clone, Copy)]
 pub enum ReceiptState {
     Free,
     Frozen(u8),
@@ -33,7 +35,7 @@ pub enum ReceiptState {
 }
 
 // "a stage: 0 paired, 1 prepaid, 2 held, 3 closed, 4 ended"; "the new stage 5, funded"; "stage 6, awaiting auction"
-#[derive(Drop)]
+#[derive(Clone, Copy)]
 pub enum Stage {
     Paired,
     Prepaid,
@@ -45,14 +47,14 @@ pub enum Stage {
 }
 
 // A lot of a position: an opening day with its units.
-#[derive(Drop)]
+#[derive(Clone, Copy)]
 pub struct Lot {
     pub day: u16,
     pub units: u16,
 }
 
 // "up to four opening days with the units of each", in rising order of days; a place with 0 units is free.
-#[derive(Drop)]
+#[derive(Clone, Copy)]
 pub struct Lots {
     pub oldest: Lot,
     pub second: Lot,
@@ -61,7 +63,7 @@ pub struct Lots {
 }
 
 // An account: cash in fen, units on its side, the lots that they were opened in, declared heat, standing offer.
-#[derive(Drop)]
+#[derive(Clone, Copy)]
 pub struct Account {
     pub cash: i64,
     pub units: u16,
@@ -74,7 +76,7 @@ pub struct Account {
 }
 
 // A receipt, one unit of goods in a warehouse: its owner's number, its class, its state.
-#[derive(Drop)]
+#[derive(Clone, Copy)]
 pub struct Receipt {
     pub owner: u8,
     pub bonded: bool,
@@ -82,7 +84,7 @@ pub struct Receipt {
 }
 
 // A match: the numbers of its parties, price in fen a tonne of its day, due day, the seller's declared heat at pairing, fen held.
-#[derive(Drop)]
+#[derive(Clone, Copy)]
 pub struct Match {
     pub held: u64,
     pub price: u32,
@@ -95,7 +97,7 @@ pub struct Match {
 }
 
 // The book: kind, T, R, the day's price, and the three tables with how many rows of each are in use.
-#[derive(Drop)]
+#[derive(Clone, Copy)]
 pub struct Book {
     pub board: bool,
     pub tonnes: u64,
@@ -114,21 +116,21 @@ pub struct Book {
 }
 
 // The answer to a call: accepted, with the number that it carries, or refused, with the number of the refusal.
-#[derive(Drop)]
+#[derive(Clone, Copy)]
 pub enum Answer {
     Accepted(u64),
     Refused(u64),
 }
 
 // What a call leaves: its answer and the book.
-#[derive(Drop)]
+#[derive(Clone, Copy)]
 pub struct Outcome {
     pub answer: Answer,
     pub book: Book,
 }
 
 // The eighteen calls, in the order of their numbers.
-#[derive(Drop)]
+#[derive(Clone, Copy)]
 pub enum Call {
     Join {
         residence: u64,
@@ -204,7 +206,7 @@ pub enum Call {
 }
 
 // One of a list of buyers or sellers in Close: an account's number, the units left to it, and where it is a lot its day, else 0.
-#[derive(Drop)]
+#[derive(Clone, Copy)]
 pub struct Listed {
     pub account: u8,
     pub left: u16,
@@ -212,21 +214,21 @@ pub struct Listed {
 }
 
 // What a search through a table finds: a row's number, or nothing.
-#[derive(Drop)]
+#[derive(Clone, Copy)]
 pub enum Found {
     At(usize),
     Nothing,
 }
 
 // A party's fault at Pay: none, or the percent of V that it costs.
-#[derive(Drop)]
+#[derive(Clone, Copy)]
 pub enum Fault {
     Faultless,
     Percent(u64),
 }
 
 // A receipt table, and how many receipts are still to be frozen in it.
-#[derive(Drop)]
+#[derive(Clone, Copy)]
 pub struct Freezing {
     pub receipts: [Receipt; Book::RECEIPTS],
     pub left: u64,

@@ -1,4 +1,6 @@
 // One call of the machine, whichever it is.
+#![tactic(auto)]
+
 ghost use Rattle.std.specs.Prelude.{◌≡◌};
 ghost use Rattle.book.specs.Calls.{step};
 ghost use Rattle.book.specs.Lists.{Reached};

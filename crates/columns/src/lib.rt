@@ -1,4 +1,6 @@
 // The ledger page for the wall printer: lines of 40 characters and a newline.
+#![tactic(auto)]
+
 ghost use Rattle.std.specs.Prelude.{◌≡◌, ◌++◌, ℕ, ◌+◌, ◌*◌, ◌≤◌, ◌<◌, length, get_or};
 ghost use Rattle.book.specs.Lists.{Reached};
 ghost use Rattle.book.specs.Rows.{blank_match};

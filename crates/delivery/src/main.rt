@@ -1,4 +1,6 @@
 // The session program: standard input is the session, standard output its answers and its ledger.
+#![tactic(auto)]
+
 ghost use Rattle.std.specs.Prelude.{◌≡◌, length};
 
 // One byte more than an input may have, which shows that it is longer.

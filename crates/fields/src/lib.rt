@@ -1,4 +1,6 @@
 // The fields of the ledger page: words, numbers and cash, each aligned on the right in its width.
+#![tactic(auto)]
+
 ghost use Rattle.std.specs.Prelude.{◌≡◌, ◌++◌, ◌+◌, ◌^◌, ◌≤◌, ◌<◌, length};
 ghost use Rattle.text.specs.Print.{Put, digits, with_sign};
 ghost use Rattle.text.specs.Page.{spaces, right, yuan};

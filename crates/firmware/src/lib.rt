@@ -1,4 +1,6 @@
 // The interface for C: include/delivery.h declares what is exported here.
+#![tactic(auto)]
+
 ghost use Rattle.session.specs.Paging.{Paged};
 ghost use Rattle.firmware.specs.Served.{Served, Tabled};
 

@@ -1,4 +1,6 @@
 // The heat table program: standard output is the numerators for heats 4,300 to 6,000, one to a line.
+#![tactic(auto)]
+
 ghost use Rattle.std.specs.Prelude.{◌≡◌, length};
 
 // Room for the table: 1,701 lines of 11 bytes.

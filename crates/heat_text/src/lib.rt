@@ -1,4 +1,6 @@
 // The heat table, printed: one decimal number to a line, lowest heat first.
+#![tactic(auto)]
+
 ghost use Rattle.std.specs.Prelude.{◌≡◌, ◌+◌, ◌<◌, ◌≤◌, ◌^◌, length};
 ghost use Rattle.text.specs.Print.{Put, digits};
 ghost use Rattle.text.specs.Page.{line};

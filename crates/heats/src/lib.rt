@@ -1,4 +1,6 @@
 // The heat table of document 02's Job 9: for each heat from 4,300 to 6,000 the numerator of step 2 of the coal price.
+#![tactic(auto)]
+
 ghost use Rattle.std.specs.Prelude.{◌≡◌, ◌≤◌};
 ghost use Rattle.heats.specs.Numerators.{numerator, heat_table};
 

@@ -1,4 +1,6 @@
 // Calls 14 and 16, of a board book: Measure, Terminate.
+#![tactic(auto)]
+
 ghost use Rattle.std.specs.Prelude.{◌≡◌, ◌||◌, ◌≤◌, ◌*◌, ltb};
 ghost use Rattle.coal.specs.Coal.{coal_price, coal_weight, amount};
 ghost use Rattle.coal.specs.Ranges.{most_weight};

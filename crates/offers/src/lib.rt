@@ -1,4 +1,6 @@
 // Calls 7 to 9: Declare, Offer, Retract.
+#![tactic(auto)]
+
 ghost use Rattle.std.specs.Prelude.{◌≡◌, ◌&&◌};
 ghost use Rattle.book.specs.Rows.{heat_missing};
 ghost use Rattle.book.specs.Offers.{declare, offer, retract};

@@ -1,4 +1,6 @@
 // The page program: standard input is a session, standard output the ledger page of the book after it.
+#![tactic(auto)]
+
 ghost use Rattle.std.specs.Prelude.{◌≡◌, length};
 
 // One byte more than an input may have, which shows that it is longer.

@@ -1,4 +1,6 @@
 // Pairing, and call 10: Take.
+#![tactic(auto)]
+
 ghost use Rattle.std.specs.Prelude.{◌≡◌, ◌≤◌, ◌<◌, ◌+◌};
 ghost use Rattle.book.specs.Counting.{iter};
 ghost use Rattle.book.specs.Pairing.{freeze_turn, pair};

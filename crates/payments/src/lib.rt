@@ -1,4 +1,6 @@
 // What the calls that settle a match are made of: payments to and from an account, the money held for a match and its stage, its receipts, penalties.
+#![tactic(auto)]
+
 ghost use Rattle.std.specs.Prelude.{◌≡◌, not, ◌≤◌, ◌<◌, ◌*◌};
 ghost use Rattle.coal.specs.Choice.{pick};
 ghost use Rattle.book.specs.declared.Fault.{Fault};

@@ -1,4 +1,6 @@
 // The lines of a session, each read into an opening or a call.
+#![tactic(auto)]
+
 mod lines;
 mod numbers;
 

@@ -7,14 +7,14 @@ use crate::numbers::{Numbers, read_numbers};
 use book::Call;
 
 // A line after the first: a call, or a line not of the form.
-#[derive(Drop)]
+#[derive(Clone, Copy)]
 pub enum Line {
     Run(Call),
     Bad,
 }
 
 // Line one: the opening, or a line not of the form.
-#[derive(Drop)]
+#[derive(Clone, Copy)]
 pub enum OpeningLine {
     Open {
         kind: u64,

@@ -4,7 +4,7 @@ ghost use Rattle.reader.specs.Numbers.{numbers};
 ghost use Rattle.reader.specs.Numbers.{is_digit, takes_digit, ends_number, ends_line};
 
 // The first `count` of the values are the numbers of a line; 0 of them where it is not of the form.
-#[derive(Drop)]
+#[derive(Clone, Copy)]
 pub struct Numbers {
     pub values: [u64; 8],
     pub count: usize,

@@ -1,4 +1,6 @@
 // Calls 5 and 6: Lodge, Strike; and the count of an owner's free receipts.
+#![tactic(auto)]
+
 ghost use Rattle.std.specs.Prelude.{◌≡◌, not, ◌&&◌, ◌≤◌, ltb};
 ghost use Rattle.book.specs.Counting.{tally};
 ghost use Rattle.book.specs.Rows.{any_class};

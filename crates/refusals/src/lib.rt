@@ -1,4 +1,6 @@
 // Refusals of ten calls by the book's numbers and the rows that the call names, so that no table is copied for them.
+#![tactic(auto)]
+
 ghost use Rattle.std.specs.Prelude.{◌≡◌};
 ghost use Rattle.book.specs.Tables.{account_at, match_at};
 ghost use Rattle.book.specs.Lists.{Reached};
@@ -8,7 +10,7 @@ ghost use Rattle.refusals.specs.Early.{of_match, of_parties, of_bid, rows_named,
 use book::{Account, Book, Call, Match};
 
 // The rows that a call names: a match, a buyer and a seller, or a match and its winner as a buyer.
-#[derive(Drop)]
+#[derive(Clone, Copy)]
 pub struct Named {
     pub pair: u64,
     pub buyer: u64,

@@ -1,4 +1,6 @@
 // Replays stored sessions and compares every byte: the arguments are the names of an input and of its output, in turn; an output `NAME.page` is the page of the book after the session.
+#![tactic(auto)]
+
 ghost use Rattle.std.specs.Prelude.{◌≡◌, ◌+◌, ◌^◌, ◌<◌, ◌≤◌, length};
 ghost use Rattle.io.specs.Counts.{IsPrefixLen};
 

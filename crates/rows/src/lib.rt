@@ -1,4 +1,6 @@
 // One row by value: an account, a receipt or a match, new, with one thing changed, or asked one thing. Numbers are narrowed to a row's fields here only.
+#![tactic(auto)]
+
 ghost use Rattle.std.specs.Prelude.{◌≡◌, ◌≤◌, ◌<◌, ◌+◌, ◌-◌, eqb, ltb, nat_abs, pos};
 ghost use Rattle.std.specs.Int.Signed.{lt_z};
 ghost use Rattle.book.specs.declared.Heat.{Heat};

@@ -1,4 +1,6 @@
 // The later lines of a session: each is read, its call made and its answer printed.
+#![tactic(auto)]
+
 ghost use Rattle.std.specs.Prelude.{true, ◌≡◌, [], ◌+◌, ◌*◌, ◌≤◌, length, drop};
 ghost use Rattle.coal.specs.Choice.{pick};
 ghost use Rattle.book.specs.Lists.{Reached};
@@ -10,7 +12,7 @@ use book::{Answer, Book, Call};
 use reader::Line;
 
 // The book after some lines of a session, and the place after what was printed.
-#[derive(Drop)]
+#[derive(Clone, Copy)]
 pub struct Ran {
     pub book: Book,
     pub at: usize,

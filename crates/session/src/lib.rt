@@ -1,4 +1,6 @@
 // A session: from the bytes of its input to the bytes of its output, or to the page of the book after it.
+#![tactic(auto)]
+
 ghost use Rattle.std.specs.Prelude.{◌≡◌, ◌≤◌, length};
 ghost use Rattle.book.specs.Answers.{refuse};
 ghost use Rattle.book.specs.Opening.{no_book};

@@ -1,4 +1,6 @@
 // Calls 13, 15 and 17: Pay, Invoice, Hand over.
+#![tactic(auto)]
+
 ghost use Rattle.std.specs.Prelude.{◌≡◌, ◌&&◌, ◌≤◌, ◌<◌, ltb};
 ghost use Rattle.coal.specs.Choice.{pick};
 ghost use Rattle.book.specs.declared.Stage.{Stage};
@@ -17,7 +19,7 @@ use payments::{charge, fault, free_again, handed, pay, punish, set_stage, value}
 // ---- Pay
 
 // How many receipts are frozen for a match, and how many of them are ordinary.
-#[derive(Drop)]
+#[derive(Clone, Copy)]
 struct Frozen {
     all: u64,
     ordinary: u64,

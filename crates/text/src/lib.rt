@@ -1,4 +1,6 @@
 // What a session prints: its answers and its ledger.
+#![tactic(auto)]
+
 mod ledger;
 mod print;
 

@@ -1,1 +1,3 @@
 // Laws of signed sums, in specs/; this crate has no code.
+#![tactic(auto)]
+

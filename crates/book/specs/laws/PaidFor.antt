@@ -11,7 +11,7 @@ use Rattle.book.specs.Closing.{lapse_offers}
 use Rattle.book.specs.Settlement.{value}
 use Rattle.book.specs.Entries.{Entry}
 use Rattle.book.specs.Lists.{Reached, opened, called}
-use Rattle.book.specs.PaidFor.{PaidFor}
+use Rattle.book.specs.PaidFor.{PaidFor, EachPaidFor}
 use Rattle.book.specs.laws.Counting.{by_pick, by_eq, tally_most, impossible}
 use Rattle.book.specs.laws.Answered.{Answered, answered, of_opening}
 use Rattle.book.specs.laws.Sound.{frozen_of, Core, SoundTables}
@@ -98,7 +98,7 @@ reached_full : {b : Book} → Reached b → Full b
 reached_full (opened kind t r p e) = of_opening Full (λ board t r p g₁ g₂ g₃ g₄ g₅ j h. absurd (omega arith)) kind t r p
 reached_full (called {b = b} c h) = full (answered b c) (reached_tables h) (reached_full h)
 
-pub paid_for : PaidFor
+pub paid_for : EachPaidFor
 unfolding frozen_receipts value
 paid_for b h j i e =
     let r = (reached_tables h).core in
