@@ -20,4 +20,3 @@ pub mod Demand3
 pub mod Agreement
 pub mod PaidFor
 pub mod Auctions
-pub mod laws

@@ -6,7 +6,7 @@ use Rattle.book.specs.Pairing.{freeze, pair}
 use Rattle.book.specs.Closing.{Pair, pair_all}
 use Rattle.book.specs.Lists.{Reached}
 use Rattle.rows.specs.Needs.{calls}
-use Rattle.book.specs.laws.Counting.{by_pick}
+use Rattle.book.proofs.laws.Counting.{by_pick}
 
 -- what a pairing asks of a book, but for room
 pub record Ready (b : Book) : Type 0 where

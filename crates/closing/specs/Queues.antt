@@ -4,7 +4,7 @@ use Rattle.std.proofs.Common.{sym, ap, ◌∙◌, add-one, arith, length-take, l
 use Rattle.std.proofs.lemmas.List.{length-map, set-get_or}
 use Rattle.std.proofs.Math.Seq.{slice, slice-cons, length-slice, take-set-lt}
 use Rattle.book.specs.declared.Listed.{Listed}
-use Rattle.book.specs.laws.Walking.{All}
+use Rattle.book.proofs.laws.Walking.{All}
 use Rattle.closing.specs.declared.Listing.{Listing}
 
 -- a cell that is not in use

@@ -1713,6 +1713,7 @@ const NUMERATORS: [u64; 1_701] = [
 pub const DENOMINATOR: u64 = 4_950_000_000;
 
 // The whole table.
+#[tactic(auto, unfolding(crate::specs::Each::each, crate::specs::Numerators::numerator, crate::specs::Numerators::heat_table))]
 pub fn numerators() -> [u64; 1_701]
     ensures { result ≡ heat_table }
 {
@@ -1720,6 +1721,7 @@ pub fn numerators() -> [u64; 1_701]
 }
 
 // The numerator of a heat, from the table.
+#[tactic(auto, using(crate::specs::Numerators::entry))]
 pub fn numerator(e: u64) -> u64
     requires le_e { 4_300 ≤ e }
     requires e_bound { e ≤ 6_000 }

@@ -8,7 +8,7 @@ use mir.Syntax.{w64}
 use mir.Val.{Fits}
 use Rattle.coal.specs.Coal.{amount}
 use Rattle.coal.specs.Ranges.{most_due, most_price, most_weight}
-use Rattle.coal.specs.Bounds.{amount_most}
+use Rattle.coal.proofs.laws.Bounds.{amount_most}
 use Rattle.book.specs.declared.Heat.{Heat}
 use Rattle.book.specs.declared.Book.{Book}
 use Rattle.book.specs.declared.Outcome.{Outcome}
@@ -16,7 +16,7 @@ use Rattle.book.specs.Answers.{refuse_if}
 use Rattle.book.specs.Rows.{heat_value}
 use Rattle.book.specs.Tables.{match_at}
 use Rattle.book.specs.Lists.{Reached}
-use Rattle.book.specs.laws.Reaching.{sound}
+use Rattle.book.proofs.laws.Reaching.{sound}
 use Rattle.payments.specs.Money.{most_paid}
 
 -- "D = units × T × 1,000 kg"

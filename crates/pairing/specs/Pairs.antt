@@ -10,7 +10,7 @@ use Rattle.book.specs.declared.Book.{Book}
 use Rattle.book.specs.Counting.{iter}
 use Rattle.book.specs.Rows.{blank_account, units_off}
 use Rattle.book.specs.Tables.{account_at, with_accounts, with_matches, with_receipts}
-use Rattle.book.specs.laws.Counting.{by_pick, impossible}
+use Rattle.book.proofs.laws.Counting.{by_pick, impossible}
 use Rattle.book.specs.Pairing.{new_match, freeze_turn, freeze, taken, pair}
 
 module _ (b : Book) (c : Bool) (days buyer seller u : ℕ) {m : Match} {x y : Account} (h : m ≡ new_match b buyer seller u days) (p : x ≡ units_off (account_at b buyer) u)

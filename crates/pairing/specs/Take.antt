@@ -7,7 +7,7 @@ use Rattle.book.specs.declared.Book.{Book}
 use Rattle.book.specs.Rows.{is_short, offer_units}
 use Rattle.book.specs.Tables.{account_at}
 use Rattle.book.specs.Lists.{Reached}
-use Rattle.book.specs.laws.Reaching.{sound}
+use Rattle.book.proofs.laws.Reaching.{sound}
 
 -- an offer is of units that the seller is short
 pub offer_small : (b : Book) (k : ℕ) → Reached b → k < b.account_count → offer_units (account_at b k).offer ≤ 1_000

@@ -4,7 +4,7 @@ use Rattle.std.proofs.Common.{arith, mul-le-mul, add_assoc, Fits}
 use Rattle.std.specs.Int.{w64}
 use Rattle.coal.specs.Choice.{pick}
 use Rattle.coal.specs.Coal.{percent_down}
-use Rattle.coal.specs.Bounds.{percent_down_most}
+use Rattle.coal.proofs.laws.Bounds.{percent_down_most}
 use Rattle.whole.specs.Whole.{natAbs_sum, natAbs_neg}
 use Rattle.book.specs.declared.Account.{Account}
 use Rattle.book.specs.declared.Match.{Match}
@@ -14,9 +14,9 @@ use Rattle.book.specs.Rows.{blank_account}
 use Rattle.book.specs.Tables.{account_at, match_at, put_account, with_fund, pay, charge}
 use Rattle.book.specs.Settlement.{value}
 use Rattle.book.specs.Lists.{Reached}
-use Rattle.book.specs.laws.Counting.{at_set}
-use Rattle.book.specs.laws.Sound.{Sound}
-use Rattle.book.specs.laws.Reaching.{sound}
+use Rattle.book.proofs.laws.Counting.{at_set}
+use Rattle.book.proofs.laws.Sound.{Sound}
+use Rattle.book.proofs.laws.Reaching.{sound}
 use Rattle.rows.specs.Needs.{calls}
 
 -- ---- amounts, in fen

@@ -7,7 +7,7 @@ use borrow.Author.Tests.{eqb-true}
 use Rattle.coal.specs.Choice.{pick}
 use Rattle.book.specs.declared.Call.{Call}
 use Rattle.book.specs.Codes.{call_number}
-use Rattle.book.specs.laws.Counting.{by_pick}
+use Rattle.book.proofs.laws.Counting.{by_pick}
 use Rattle.reader.specs.declared.lines.Line.{Line}
 use Rattle.reader.specs.Numbers.{numbers}
 use Rattle.reader.specs.Lines.{arguments, call_of, line_of}

@@ -10,7 +10,7 @@ use lib.Dec.{leb, eqb}
 use lib.ListN.{length, get_or, take, drop, set, drop_of_length-le, length-set}
 use lib.Seq.{drop-cons, length-take-le, take-suc-set}
 use borrow.Author.Tests.{leb-true, ltb-true, eqb-true, eq-eqb, ne_eqb}
-use Rattle.book.specs.laws.Counting.{by_pick, by_eq}
+use Rattle.book.proofs.laws.Counting.{by_pick, by_eq}
 use Rattle.reader.specs.Numbers.{is_digit, takes_digit, ends_number, ends_line, numbers_on, numbers}
 
 pub record Digit (b d v : ℕ) : Type 0 where

@@ -4,7 +4,7 @@ use Rattle.book.specs.declared.Call.{Call}
 use Rattle.book.specs.declared.Book.{Book}
 use Rattle.book.specs.Answers.{refuse, refusal_of}
 use Rattle.book.specs.Calls.{step}
-use Rattle.book.specs.laws.Answered.{refused_is}
+use Rattle.book.proofs.laws.Answered.{refused_is}
 use Rattle.refusals.specs.declared.Named.{Named}
 
 abbrev pub of_match : ℕ → Named

@@ -3,7 +3,7 @@ use Rattle.std.specs.Prelude.{◌≡◌, Bool, ℕ, suc, ◌+◌, ◌-◌, ◌�
 use Rattle.std.proofs.Common.{arith, zero-add}
 use Rattle.std.proofs.Math.Nat.{sub-zero}
 use Rattle.book.specs.Counting.{iter, tally, one_if}
-use Rattle.book.specs.laws.Counting.{one_most}
+use Rattle.book.proofs.laws.Counting.{one_most}
 
 pub more_left : (n i : ℕ) → i < n → n - i ≡ suc (n - (i + 1))
 more_left n i h = omega arith

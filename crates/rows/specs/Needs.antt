@@ -6,8 +6,8 @@ use Rattle.std.specs.Int.{w64}
 use Rattle.book.specs.declared.Book.{Book}
 use Rattle.book.specs.Tables.{account_at, match_at}
 use Rattle.book.specs.Lists.{Reached}
-use Rattle.book.specs.laws.Sound.{Sound}
-use Rattle.book.specs.laws.Reaching.{sound}
+use Rattle.book.proofs.laws.Sound.{Sound}
+use Rattle.book.proofs.laws.Reaching.{sound}
 
 module _ (b : Book) (r : Reached b) where
   s : Sound b

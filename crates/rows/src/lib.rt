@@ -632,6 +632,7 @@ pub fn account_number(number: u64) -> u8
 }
 
 // The place of an account's row: its number where the table has such a row, else 0, so that it can always be read.
+#[tactic(auto, unfolding(crate::specs::Places::place))]
 pub fn account_place(number: u64) -> usize
     ensures { (result ≡ place 32 number) × (result < 32) }
 {
@@ -642,6 +643,7 @@ pub fn account_place(number: u64) -> usize
 }
 
 // The place of a match's row.
+#[tactic(auto, unfolding(crate::specs::Places::place))]
 pub fn match_place(number: u64) -> usize
     ensures { (result ≡ place 256 number) × (result < 256) }
 {

@@ -11,7 +11,7 @@ use Rattle.book.specs.declared.Book.{Book}
 use Rattle.book.specs.declared.Outcome.{Outcome}
 use Rattle.book.specs.declared.Call.{Call}
 use Rattle.book.specs.Lists.{Reached, called, after}
-use Rattle.book.specs.laws.Counting.{by_pick}
+use Rattle.book.proofs.laws.Counting.{by_pick}
 use Rattle.reader.specs.declared.lines.Line.{Line}
 use Rattle.reader.specs.Numbers.{is_digit, numbers, numbers_on}
 use Rattle.reader.specs.Lines.{lines, line_length, line_of, call_of}

@@ -14,7 +14,7 @@ use Rattle.book.specs.declared.Answer.{Answer}
 use Rattle.book.specs.declared.Outcome.{Outcome}
 use Rattle.book.specs.Answers.{is_accepted}
 use Rattle.book.specs.Opening.{opening}
-use Rattle.book.specs.laws.Counting.{by_pick}
+use Rattle.book.proofs.laws.Counting.{by_pick}
 use Rattle.reader.specs.declared.lines.OpeningLine.{OpeningLine}
 use Rattle.reader.specs.Lines.{lines, opening_line_of}
 use Rattle.text.specs.Print.{Put, answer_line, spaced, digits, last_digits}

@@ -17,8 +17,8 @@ use Rattle.book.specs.Answers.{refuse, accept, is_accepted}
 use Rattle.book.specs.Opening.{opening, no_book}
 use Rattle.book.specs.Lists.{Reached, opened as reached-opening, called, after}
 use Rattle.book.specs.Demand3.{Holds}
-use Rattle.book.specs.laws.Counting.{by_pick}
-use Rattle.book.specs.laws.Demand.{demand_3}
+use Rattle.book.proofs.laws.Counting.{by_pick}
+use Rattle.book.proofs.laws.Demand.{demand_3}
 use Rattle.reader.specs.declared.lines.OpeningLine.{OpeningLine}
 use Rattle.reader.specs.Numbers.{numbers, numbers_on}
 use Rattle.reader.specs.Lines.{lines, line_length, opening_of, opening_line_of}

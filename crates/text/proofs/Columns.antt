@@ -20,8 +20,8 @@ use Rattle.book.specs.declared.Book.{Book}
 use Rattle.book.specs.Codes.{stage_number}
 use Rattle.book.specs.Tables.{account_at, receipt_at, match_at}
 use Rattle.book.specs.Lists.{Reached}
-use Rattle.book.specs.laws.Counting.{by_pick}
-use Rattle.book.specs.laws.Reaching.{sound}
+use Rattle.book.proofs.laws.Counting.{by_pick}
+use Rattle.book.proofs.laws.Reaching.{sound}
 use Rattle.text.specs.Text.{bytes}
 use Rattle.text.specs.Print.{digits, last_digits, with_sign, spaced}
 use Rattle.text.specs.Ledger.{heading, each}

@@ -10,7 +10,7 @@ use lib.ListN.{length, take, drop, get_or, length-append}
 use lib.Seq.{take-suc, drop-drop}
 use borrow.Author.Tests.{lt-ltb, le-ltb}
 use Rattle.coal.specs.Choice.{pick}
-use Rattle.book.specs.laws.Counting.{by_pick}
+use Rattle.book.proofs.laws.Counting.{by_pick}
 use Rattle.text.specs.Print.{Put, last_digits, digits, spaced}
 use Rattle.text.specs.Ledger.{each}
 

@@ -5,7 +5,7 @@ use Rattle.book.specs.declared.Call.{Call}
 use Rattle.book.specs.Answers.{accept}
 use Rattle.book.specs.Accounts.{trade, traded}
 use Rattle.book.specs.Calls.{step}
-use Rattle.book.specs.laws.Answered.{MayTrade, refused_is, trade_accepted}
+use Rattle.book.proofs.laws.Answered.{MayTrade, refused_is, trade_accepted}
 use Rattle.accounts.specs.Trading.{both}
 use Rattle.rows.specs.Needs.{account_there, newest_small, day_small}
 use Rattle.rows.specs.Places.{at_place}

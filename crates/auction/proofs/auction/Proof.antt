@@ -6,7 +6,7 @@ use Rattle.book.specs.Answers.{accept}
 use Rattle.book.specs.Tables.{match_at}
 use Rattle.book.specs.Settlement.{auctioned, auction}
 use Rattle.book.specs.Calls.{step}
-use Rattle.book.specs.laws.Answered.{MayAuction, refused_is, auction_accepted}
+use Rattle.book.proofs.laws.Answered.{MayAuction, refused_is, auction_accepted}
 use Rattle.rows.specs.Needs.{account_there, match_there, calls}
 use Rattle.rows.specs.Places.{at_place}
 use Rattle.payments.specs.Money.{due_sound}

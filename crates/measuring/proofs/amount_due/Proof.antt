@@ -1,6 +1,6 @@
 -- `amount_due` meets its contract: price and amount are within the ranges of coal. Assumes nothing.
 use borrow.Author.Rules.{rules}
-use Rattle.coal.specs.Bounds.{coal_needs}
+use Rattle.coal.proofs.laws.Bounds.{coal_needs}
 use Rattle.measuring.proofs.Weighing.{weighing}
 use Rattle.measuring.proofs.amount_due.Statement.{statement}
 use Rattle.measuring.proofs.amount_due.Tie as tie

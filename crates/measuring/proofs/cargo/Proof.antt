@@ -1,6 +1,6 @@
 -- `cargo` meets its contract: the weight due is within the range of coal. Assumes nothing.
 use borrow.Author.Rules.{rules}
-use Rattle.coal.specs.Bounds.{coal_needs}
+use Rattle.coal.proofs.laws.Bounds.{coal_needs}
 use Rattle.measuring.proofs.Weighing.{weighing}
 use Rattle.measuring.proofs.cargo.Statement.{statement}
 use Rattle.measuring.proofs.cargo.Tie as tie

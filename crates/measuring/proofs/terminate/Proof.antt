@@ -6,7 +6,7 @@ use Rattle.book.specs.Answers.{accept}
 use Rattle.book.specs.Tables.{match_at}
 use Rattle.book.specs.Settlement.{terminated, terminate}
 use Rattle.book.specs.Calls.{step}
-use Rattle.book.specs.laws.Answered.{MayTerminate, refused_is, terminate_accepted}
+use Rattle.book.proofs.laws.Answered.{MayTerminate, refused_is, terminate_accepted}
 use Rattle.rows.specs.Needs.{match_there, calls}
 use Rattle.rows.specs.Places.{at_place}
 use Rattle.payments.specs.Money.{due_sound}

@@ -8,7 +8,7 @@ use Rattle.book.specs.Tables.{account_at, put_account}
 use Rattle.book.specs.Answers.{accept}
 use Rattle.book.specs.Offers.{offer}
 use Rattle.book.specs.Calls.{step}
-use Rattle.book.specs.laws.Answered.{MayOffer, refused_is, offer_accepted}
+use Rattle.book.proofs.laws.Answered.{MayOffer, refused_is, offer_accepted}
 use Rattle.rows.specs.Needs.{account_there}
 use Rattle.rows.specs.Places.{at_place}
 use Rattle.offers.proofs.offer.Statement.{statement}

@@ -9,7 +9,7 @@ use Rattle.book.specs.Answers.{accept}
 use Rattle.book.specs.Pairing.{pair}
 use Rattle.book.specs.Offers.{end_offer, take_offer}
 use Rattle.book.specs.Calls.{step}
-use Rattle.book.specs.laws.Answered.{MayTake, refused_is, take_accepted}
+use Rattle.book.proofs.laws.Answered.{MayTake, refused_is, take_accepted}
 use Rattle.pairing.specs.Take.{offer_small, due_small}
 use Rattle.rows.specs.Needs.{account_there, price_small, receipts_few}
 use Rattle.rows.specs.Places.{at_place}

@@ -1,7 +1,7 @@
 -- `session` meets its contract: a line one that is accepted, and one that is refused. Assumes nothing.
 use native.Mathlib.Omega.{arith}
 use borrow.Author.Rules.{rules}
-use Rattle.book.specs.laws.Reaching.{sound}
+use Rattle.book.proofs.laws.Reaching.{sound}
 use Rattle.session.proofs.Starting.{Begun, first_within, has_begun, followed_reached, accepted_put, refused_put, delivered}
 use Rattle.session.proofs.session.Statement.{statement}
 use Rattle.session.proofs.session.Tie as tie

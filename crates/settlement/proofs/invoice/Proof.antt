@@ -7,7 +7,7 @@ use Rattle.book.specs.Answers.{accept}
 use Rattle.book.specs.Tables.{match_at, pay}
 use Rattle.book.specs.Settlement.{set_stage, invoice}
 use Rattle.book.specs.Calls.{step}
-use Rattle.book.specs.laws.Answered.{MayInvoice, refused_is, invoice_accepted}
+use Rattle.book.proofs.laws.Answered.{MayInvoice, refused_is, invoice_accepted}
 use Rattle.rows.specs.Needs.{match_there, calls}
 use Rattle.rows.specs.Places.{at_place}
 use Rattle.payments.specs.Money.{money}

@@ -6,7 +6,7 @@ use Rattle.book.specs.Answers.{accept}
 use Rattle.book.specs.Tables.{match_at}
 use Rattle.book.specs.Settlement.{buyer_fault, seller_fault, paid, pay_match}
 use Rattle.book.specs.Calls.{step}
-use Rattle.book.specs.laws.Answered.{MayPay, refused_is, pay_accepted}
+use Rattle.book.proofs.laws.Answered.{MayPay, refused_is, pay_accepted}
 use Rattle.settlement.proofs.pay_match.Statement.{statement}
 use Rattle.settlement.proofs.pay_match.Tie as tie
 
