@@ -26,6 +26,7 @@ pub fn value(m: Match, tonnes: u64) -> u64
 }
 
 // The book with an amount paid to an account.
+#[tactic(auto, unfolding(book::specs::Tables::pay))]
 pub fn pay(mut book: Book, account: u8, amount: u64) -> Book
     requires account_bound { account < 32 }
     requires room { Room 1 book }
@@ -39,6 +40,7 @@ pub fn pay(mut book: Book, account: u8, amount: u64) -> Book
 }
 
 // The book with an amount taken from an account.
+#[tactic(auto, unfolding(book::specs::Tables::charge))]
 pub fn charge(mut book: Book, account: u8, amount: u64) -> Book
     requires account_bound { account < 32 }
     requires room { Room 1 book }
@@ -65,6 +67,7 @@ pub fn set_stage(mut book: Book, number: u64, held: u64, stage: Stage) -> Book
 // ---- receipts of a match
 
 // "its receipts are free again"
+#[tactic(auto, unfolding(book::specs::Settlement::release_turn))]
 pub fn free_again(
     receipts: [Receipt; Book::RECEIPTS],
     count: usize,
@@ -82,6 +85,7 @@ pub fn free_again(
 }
 
 // "the receipts pass to the buyer, free"; a winner "takes the receipts"
+#[tactic(auto, unfolding(book::specs::Settlement::pass_turn))]
 fn pass_receipts(
     receipts: [Receipt; Book::RECEIPTS],
     count: usize,
@@ -101,6 +105,7 @@ fn pass_receipts(
 }
 
 // "passes the receipts and pays the seller's 80%": "the rest is held"; the receipts pass to one who takes them, "free; stage held."
+#[tactic(auto, using(crate::specs::Money::money), unfolding(book::specs::Settlement::handed, book::specs::Settlement::pass_receipts, book::specs::Tables::pay))]
 pub fn handed(book: Book, number: u64, m: Match, v: u64, taker: u8) -> Book
     requires handing { Handing book number m taker }
     requires v_le_most_paid { v ≤ most_paid }
@@ -118,6 +123,7 @@ pub fn handed(book: Book, number: u64, m: Match, v: u64, taker: u8) -> Book
 // ---- penalties
 
 // "One at fault pays the other; two at fault each pay the fund.": what one of them pays.
+#[tactic(auto, unfolding(crate::specs::Money::fined))]
 fn fined(book: Book, payer: u8, other: u8, amount: u64, both: bool) -> Book
     requires payer_bound { payer < 32 }
     requires other_bound { other < 32 }
@@ -134,6 +140,7 @@ fn fined(book: Book, payer: u8, other: u8, amount: u64, both: bool) -> Book
 }
 
 // "A penalty is that percent of V, down": x is the buyer's fault, y the seller's.
+#[tactic(auto, using(crate::specs::Money::money, crate::specs::Money::both_fined), unfolding(book::specs::Settlement::punish, book::specs::Settlement::penalty, crate::specs::Money::fined))]
 pub fn punish(book: Book, m: Match, v: u64, x: Fault, y: Fault) -> Book
     requires deal { Deal book m v }
     requires room { Room 4 book }
