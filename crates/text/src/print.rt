@@ -13,6 +13,7 @@ pub fn put_byte(out: &mut [u8], at: usize, b: u8) -> usize
     at + 1
 }
 
+#[tactic(auto, using(crate::proofs::Printing::put_none, crate::proofs::Printing::put_one))]
 pub fn put_bytes(out: &mut [u8], at: usize, src: &[u8]) -> usize
     requires { at + length src.now ≤ length out.old }
     ensures { Put out.old out.new at result src.now }
@@ -33,6 +34,7 @@ pub fn last_digit(n: u64) -> u8
 }
 
 // A number's digits, with room for just these.
+#[tactic(auto, using(crate::proofs::Printing::digits_one, crate::proofs::Printing::digits_longer, crate::proofs::Printing::put_small, crate::proofs::Printing::put_more))]
 pub fn put_digits(out: &mut [u8], at: usize, n: u64) -> usize
     requires { at + length (digits n) ≤ length out.old }
     ensures { Put out.old out.new at result (digits n) }
@@ -45,6 +47,7 @@ pub fn put_digits(out: &mut [u8], at: usize, n: u64) -> usize
 }
 
 // The same with room for any number: what is left to show at a call is arithmetic.
+#[tactic(auto, using(crate::proofs::Printing::digits_64))]
 pub fn put_number(out: &mut [u8], at: usize, n: u64) -> usize
     requires { at + 20 ≤ length out.old }
     ensures { Put out.old out.new at result (digits n) × (result ≤ at + 20) }
@@ -52,6 +55,7 @@ pub fn put_number(out: &mut [u8], at: usize, n: u64) -> usize
     put_digits(out, at, n)
 }
 
+#[tactic(auto, using(crate::proofs::Printing::put_then))]
 pub fn put_signed(out: &mut [u8], at: usize, z: i64) -> usize
     requires { at + 21 ≤ length out.old }
     ensures { Put out.old out.new at result (signed z) × (result ≤ at + 21) }
@@ -65,6 +69,7 @@ pub fn put_signed(out: &mut [u8], at: usize, z: i64) -> usize
 }
 
 // A space and a number.
+#[tactic(auto, using(crate::proofs::Printing::put_then))]
 pub fn put_next(out: &mut [u8], at: usize, n: u64) -> usize
     requires { at + 21 ≤ length out.old }
     ensures { Put out.old out.new at result ((32 ∷ []) ++ digits n) × (result ≤ at + 21) }
@@ -74,6 +79,7 @@ pub fn put_next(out: &mut [u8], at: usize, n: u64) -> usize
 }
 
 // The rest of a line: numbers, a space before each, and the newline.
+#[tactic(auto, using(crate::proofs::Printing::put_none, crate::proofs::Printing::put_then, crate::proofs::Printing::spaced_more), unfolding(crate::specs::Print::spaced))]
 pub fn put_rest(out: &mut [u8], at: usize, ns: &[u64]) -> usize
     requires { at + 21 * length ns.now + 1 ≤ length out.old }
     ensures { Put out.old out.new at result (rest_of_line ns.now) × (result ≤ at + 21 * length ns.now + 1) }
@@ -88,6 +94,7 @@ pub fn put_rest(out: &mut [u8], at: usize, ns: &[u64]) -> usize
 }
 
 // A word and a number on a line.
+#[tactic(auto, using(crate::proofs::Printing::put_then))]
 pub fn put_heading(out: &mut [u8], at: usize, word: &[u8], n: u64) -> usize
     requires { at + length word.now + 22 ≤ length out.old }
     ensures { Put out.old out.new at result (heading word.now n) × (result ≤ at + length word.now + 22) }

@@ -1,0 +1,12 @@
+use Rattle.std.proofs.Common.{rules}
+use Rattle.text.specs.Ledger.{each, receipt_row}
+use Rattle.text.proofs.Printing.{rows_more, rows_all}
+use Rattle.text.proofs.ledger.put_receipts.Goals as goal
+
+pub loop-i-preserved : goal.loop-i-preserved
+unfolding each receipt_row
+loop-i-preserved c = search (rules, rows_more)
+
+pub returns : goal.returns
+unfolding each receipt_row
+returns c = search (rules, rows_all)
