@@ -48,7 +48,6 @@ pub fn stage_number(stage: Stage) -> u64
     }
 }
 
-#[tactic(auto, using(crate::proofs::Printing::put_then))]
 fn put_account(out: &mut [u8], at: usize, number: usize, a: Account) -> usize
     requires { at + 85 ≤ length out.old }
     ensures { Put out.old out.new at result (account_line number a) × (result ≤ at + 85) }
@@ -62,7 +61,6 @@ fn put_account(out: &mut [u8], at: usize, number: usize, a: Account) -> usize
     put_rest(out, z, &[side, units])
 }
 
-#[tactic(auto, using(crate::proofs::Printing::put_then))]
 fn put_receipt(out: &mut [u8], at: usize, number: usize, r: Receipt) -> usize
     requires { at + 84 ≤ length out.old }
     ensures { Put out.old out.new at result (receipt_line number r) × (result ≤ at + 84) }
@@ -75,7 +73,6 @@ fn put_receipt(out: &mut [u8], at: usize, number: usize, r: Receipt) -> usize
     put_rest(out, w, &[owner, class, state])
 }
 
-#[tactic(auto, using(crate::proofs::Printing::put_then))]
 fn put_match(out: &mut [u8], at: usize, number: usize, m: Match) -> usize
     requires { at + 147 ≤ length out.old }
     ensures { Put out.old out.new at result (match_line number m) × (result ≤ at + 147) }
@@ -90,7 +87,7 @@ fn put_match(out: &mut [u8], at: usize, number: usize, m: Match) -> usize
     put_rest(out, w, &[buyer, seller, units, price, stage, m.held])
 }
 
-#[tactic(auto, using(crate::proofs::Printing::put_none, crate::proofs::Printing::rows_more, crate::proofs::Printing::rows_all), unfolding(crate::specs::Ledger::each, crate::specs::Ledger::account_row))]
+#[tactic(auto, using(crate::proofs::Printing::put_none), unfolding(crate::specs::Ledger::each))]
 fn put_accounts(out: &mut [u8], at: usize, rows: [Account; Book::ACCOUNTS], count: usize) -> usize
     requires { (at + 30 + 85 * count ≤ length out.old) × (count ≤ 32) }
     ensures { Put out.old out.new at result (section (bytes "accounts") count (account_row rows)) × (result ≤ at + 30 + 85 * count) }
@@ -103,7 +100,7 @@ fn put_accounts(out: &mut [u8], at: usize, rows: [Account; Book::ACCOUNTS], coun
     w
 }
 
-#[tactic(auto, using(crate::proofs::Printing::put_none, crate::proofs::Printing::rows_more, crate::proofs::Printing::rows_all), unfolding(crate::specs::Ledger::each, crate::specs::Ledger::receipt_row))]
+#[tactic(auto, using(crate::proofs::Printing::put_none), unfolding(crate::specs::Ledger::each))]
 fn put_receipts(out: &mut [u8], at: usize, rows: [Receipt; Book::RECEIPTS], count: usize) -> usize
     requires { (at + 30 + 84 * count ≤ length out.old) × (count ≤ 256) }
     ensures { Put out.old out.new at result (section (bytes "receipts") count (receipt_row rows)) × (result ≤ at + 30 + 84 * count) }
@@ -116,7 +113,7 @@ fn put_receipts(out: &mut [u8], at: usize, rows: [Receipt; Book::RECEIPTS], coun
     w
 }
 
-#[tactic(auto, using(crate::proofs::Printing::put_none, crate::proofs::Printing::rows_more, crate::proofs::Printing::rows_all), unfolding(crate::specs::Ledger::each, crate::specs::Ledger::match_row))]
+#[tactic(auto, using(crate::proofs::Printing::put_none), unfolding(crate::specs::Ledger::each))]
 fn put_matches(out: &mut [u8], at: usize, rows: [Match; Book::MATCHES], count: usize) -> usize
     requires { (at + 29 + 147 * count ≤ length out.old) × (count ≤ 256) }
     ensures { Put out.old out.new at result (section (bytes "matches") count (match_row rows)) × (result ≤ at + 29 + 147 * count) }
@@ -129,7 +126,6 @@ fn put_matches(out: &mut [u8], at: usize, rows: [Match; Book::MATCHES], count: u
     w
 }
 
-#[tactic(auto, using(crate::proofs::Printing::put_then), unfolding(crate::specs::Ledger::ledger))]
 pub fn put_ledger(out: &mut [u8], at: usize, book: Book) -> usize
     requires { (at + 61_971 ≤ length out.old) × (book.account_count ≤ 32) × (book.receipt_count ≤ 256) × (book.match_count ≤ 256) }
     ensures { Put out.old out.new at result (ledger book) × (result ≤ at + 61_971) }

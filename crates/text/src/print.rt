@@ -34,7 +34,7 @@ pub fn last_digit(n: u64) -> u8
 }
 
 // A number's digits, with room for just these.
-#[tactic(auto, using(crate::proofs::Printing::digits_one, crate::proofs::Printing::digits_longer, crate::proofs::Printing::put_small, crate::proofs::Printing::put_more))]
+#[tactic(auto, using(crate::proofs::Printing::digits_one, crate::proofs::Printing::digits_longer, crate::proofs::Printing::put_small))]
 pub fn put_digits(out: &mut [u8], at: usize, n: u64) -> usize
     requires { at + length (digits n) ≤ length out.old }
     ensures { Put out.old out.new at result (digits n) }
@@ -55,7 +55,6 @@ pub fn put_number(out: &mut [u8], at: usize, n: u64) -> usize
     put_digits(out, at, n)
 }
 
-#[tactic(auto, using(crate::proofs::Printing::put_then))]
 pub fn put_signed(out: &mut [u8], at: usize, z: i64) -> usize
     requires { at + 21 ≤ length out.old }
     ensures { Put out.old out.new at result (signed z) × (result ≤ at + 21) }
@@ -69,7 +68,6 @@ pub fn put_signed(out: &mut [u8], at: usize, z: i64) -> usize
 }
 
 // A space and a number.
-#[tactic(auto, using(crate::proofs::Printing::put_then))]
 pub fn put_next(out: &mut [u8], at: usize, n: u64) -> usize
     requires { at + 21 ≤ length out.old }
     ensures { Put out.old out.new at result ((32 ∷ []) ++ digits n) × (result ≤ at + 21) }
@@ -79,7 +77,7 @@ pub fn put_next(out: &mut [u8], at: usize, n: u64) -> usize
 }
 
 // The rest of a line: numbers, a space before each, and the newline.
-#[tactic(auto, using(crate::proofs::Printing::put_none, crate::proofs::Printing::put_then, crate::proofs::Printing::spaced_more), unfolding(crate::specs::Print::spaced))]
+#[tactic(auto, using(crate::proofs::Printing::put_none, crate::proofs::Printing::put_then), unfolding(crate::specs::Print::spaced))]
 pub fn put_rest(out: &mut [u8], at: usize, ns: &[u64]) -> usize
     requires { at + 21 * length ns.now + 1 ≤ length out.old }
     ensures { Put out.old out.new at result (rest_of_line ns.now) × (result ≤ at + 21 * length ns.now + 1) }
@@ -94,7 +92,6 @@ pub fn put_rest(out: &mut [u8], at: usize, ns: &[u64]) -> usize
 }
 
 // A word and a number on a line.
-#[tactic(auto, using(crate::proofs::Printing::put_then))]
 pub fn put_heading(out: &mut [u8], at: usize, word: &[u8], n: u64) -> usize
     requires { at + length word.now + 22 ≤ length out.old }
     ensures { Put out.old out.new at result (heading word.now n) × (result ≤ at + length word.now + 22) }
