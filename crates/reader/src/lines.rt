@@ -26,6 +26,7 @@ pub enum OpeningLine {
 }
 
 // The place after the line that starts at `at`.
+#[tactic(auto, using(crate::proofs::Cutting::length_out, crate::proofs::Cutting::length_stop, crate::proofs::Cutting::length_more))]
 pub fn line_end(s: &[u8], at: usize) -> usize
     requires { at ≤ length s.now }
     ensures { result ≡ at + line_length (drop at s.now) }
@@ -138,6 +139,7 @@ fn three_arguments(k: u64, x: u64, y: u64, z: u64) -> Line
     Line::Bad
 }
 
+#[tactic(auto, using(crate::proofs::Calling::call_counted))]
 fn call_of(ns: Numbers) -> Line
     requires { ns.count ≤ 8 }
     ensures { result ≡ call_of (take ns.count ns.values) }
@@ -180,6 +182,7 @@ fn call_of(ns: Numbers) -> Line
     Line::Bad
 }
 
+#[tactic(auto, using(crate::proofs::Calling::opening_counted))]
 fn opening_of(ns: Numbers) -> OpeningLine
     requires { ns.count ≤ 8 }
     ensures { result ≡ opening_of (take ns.count ns.values) }
@@ -199,12 +202,14 @@ fn opening_of(ns: Numbers) -> OpeningLine
     OpeningLine::Bad
 }
 
+#[tactic(auto, unfolding(crate::specs::Lines::line_of))]
 pub fn read_line(line: &[u8]) -> Line
     ensures { result ≡ line_of line.now }
 {
     call_of(read_numbers(line))
 }
 
+#[tactic(auto, unfolding(crate::specs::Lines::opening_line_of))]
 pub fn read_opening(line: &[u8]) -> OpeningLine
     ensures { result ≡ opening_line_of line.now }
 {

@@ -35,6 +35,7 @@ fn ends_number(digits: u64, count: usize) -> bool
 }
 
 // Whether place `i` has a newline, and the line ends with it.
+#[tactic(auto, using(crate::proofs::Reading::at_end))]
 fn ends_line(line: &[u8], i: usize) -> bool
     requires { i < length line.now }
     ensures { result ≡ ends_line (get_or line.now i 0) (drop (i + 1) line.now) }
@@ -46,6 +47,7 @@ fn ends_line(line: &[u8], i: usize) -> bool
     }
 }
 
+#[tactic(auto, using(crate::proofs::Reading::read_few, crate::proofs::Reading::read_fewer, crate::proofs::Reading::read_long, crate::proofs::Reading::read_space, crate::proofs::Reading::read_stop, crate::proofs::Reading::read_none, crate::proofs::Reading::read_out), unfolding(crate::specs::Numbers::numbers))]
 pub fn read_numbers(line: &[u8]) -> Numbers
     ensures { (take result.count result.values ≡ numbers line.now) × (result.count ≤ 8) }
 {
