@@ -26,6 +26,7 @@ struct Frozen {
 }
 
 // Of the first receipts of a table, how many are frozen for a match, and how many of them are ordinary.
+#[tactic(auto, using(rows::specs::Loops::none_counted, rows::specs::Loops::one_counted, rows::specs::Loops::all_counted), unfolding(book::specs::Tables::frozen_at, book::specs::Tables::ordinary_at))]
 fn frozen_receipts(receipts: [Receipt; Book::RECEIPTS], count: usize, number: u64) -> Frozen
     requires { count ≤ 256 }
     ensures all_value { result.all ≡ tally count 0 (frozen_at receipts number) }
@@ -53,6 +54,7 @@ fn seller_lacks(m: Match, board: bool, frozen: u64) -> bool
 }
 
 // "moves V into money held": the buyer pays V, and V is held, at a stage.
+#[tactic(auto, using(payments::specs::Money::money), unfolding(book::specs::Settlement::into_held))]
 fn into_held(book: Book, number: u64, m: Match, v: u64, stage: Stage) -> Book
     requires { Due book number m v }
     ensures { result ≡ into_held book number m v stage }
@@ -82,6 +84,7 @@ fn paid_stage(board: bool, auction: bool) -> Stage
 }
 
 // "ends the match on a fault": "Then the match is ended and its receipts are free again."
+#[tactic(auto, using(payments::specs::Money::money, crate::proofs::Faults::ended))]
 fn fault_ended(book: Book, number: u64, m: Match, v: u64, x: Fault, y: Fault) -> Book
     requires due { Due book number m v }
     requires x_bound { percent_of x ≤ 100 }
@@ -96,6 +99,7 @@ fn fault_ended(book: Book, number: u64, m: Match, v: u64, x: Fault, y: Fault) ->
 }
 
 // By the buyer's fault, x, and the seller's, y; without one the match may go to auction.
+#[tactic(auto, using(payments::specs::Money::money, crate::proofs::Faults::paid_fault), unfolding(book::specs::Settlement::paid, book::specs::Settlement::paid_stage))]
 fn paid(book: Book, number: u64, m: Match, v: u64, auction: bool, x: Fault, y: Fault) -> Book
     requires due { Due book number m v }
     requires auction_value { auction ≡ to_auction book number m }
@@ -120,6 +124,7 @@ fn paid(book: Book, number: u64, m: Match, v: u64, auction: bool, x: Fault, y: F
 }
 
 // "Buyer's fault: unfit (10%), else cash below V (R%)", the seller's by its receipts or heat, and the match paid or ended.
+#[tactic(auto, using(payments::specs::Money::money, rows::specs::Needs::calls), unfolding(book::specs::Settlement::buyer_fault, book::specs::Settlement::seller_fault, book::specs::Settlement::to_auction, book::specs::Tables::frozen_receipts, book::specs::Tables::ordinary_receipts, book::specs::Settlement::value))]
 fn pay_due(book: Book, number: u64) -> Book
     requires reached { Reached book }
     requires number_bound { number < book.match_count }
@@ -145,6 +150,7 @@ fn pay_due(book: Book, number: u64) -> Book
 }
 
 // The number with which Pay is refused, by the row at the match's place; 0 where it is accepted.
+#[tactic(auto, using(rows::specs::Places::match_found, rows::specs::Needs::calls), unfolding(book::specs::Settlement::pay_match))]
 pub fn pay_refusal(book: Book, m: Match, number: u64) -> u64
     requires reached { Reached book }
     requires m_value { m ≡ match_at book (place 256 number) }
@@ -186,6 +192,7 @@ pub fn pay_match(book: Book, number: u64) -> Outcome
 // ---- Hand over
 
 // The number with which Hand over is refused, by the row at the match's place; 0 where it is accepted.
+#[tactic(auto, using(rows::specs::Places::match_found, rows::specs::Needs::calls), unfolding(book::specs::Settlement::hand_over))]
 pub fn hand_over_refusal(book: Book, m: Match, number: u64) -> u64
     requires reached { Reached book }
     requires m_value { m ≡ match_at book (place 256 number) }
@@ -225,6 +232,7 @@ pub fn hand_over(book: Book, number: u64) -> Outcome
 // ---- Invoice
 
 // The number with which Invoice is refused, by the row at the match's place; 0 where it is accepted.
+#[tactic(auto, using(rows::specs::Places::match_found, rows::specs::Needs::calls), unfolding(book::specs::Settlement::invoice))]
 pub fn invoice_refusal(book: Book, m: Match, number: u64) -> u64
     requires reached { Reached book }
     requires m_value { m ≡ match_at book (place 256 number) }
