@@ -8,6 +8,7 @@ ghost use Rattle.text.specs.Page.{spaces, right, yuan};
 use text::{last_digit, put_byte, put_bytes};
 
 // So many spaces.
+#[tactic(auto, using(text::proofs::Printing::put_none, crate::proofs::Aligning::spaces_more, crate::proofs::Aligning::spaces_all, crate::proofs::Aligning::spaces_next))]
 pub fn put_spaces(out: &mut [u8], at: usize, n: usize) -> usize
     requires { at + n ≤ length out.old }
     ensures { Put out.old out.new at result (spaces n) × (result ≡ at + n) }
@@ -31,6 +32,7 @@ pub fn put_word(out: &mut [u8], at: usize, width: usize, word: &[u8]) -> usize
 }
 
 // A number in a field, with a sign directly before its digits.
+#[tactic(auto, using(text::proofs::Printing::digits_one, text::proofs::Printing::digits_longer))]
 fn put_right(out: &mut [u8], at: usize, width: usize, sign: &[u8], n: u64) -> usize
     requires { (at + width ≤ length out.old) × (length sign.now + length (digits n) ≤ width) }
     ensures { Put out.old out.new at result (right width (sign.now ++ digits n)) × (result ≡ at + width) }
@@ -44,6 +46,7 @@ fn put_right(out: &mut [u8], at: usize, width: usize, sign: &[u8], n: u64) -> us
 }
 
 // A number in a field that is wide enough for it.
+#[tactic(auto, using(text::proofs::Columns::digits_within))]
 pub fn put_field(out: &mut [u8], at: usize, width: usize, n: u64) -> usize
     requires { (at + width ≤ length out.old) × (n < 10 ^ width) × (0 < width) }
     ensures { Put out.old out.new at result (right width (digits n)) × (result ≡ at + width) }
@@ -52,6 +55,7 @@ pub fn put_field(out: &mut [u8], at: usize, width: usize, n: u64) -> usize
 }
 
 // Fen in yuan with two decimals.
+#[tactic(auto, using(crate::proofs::Aligning::yuan_short))]
 fn put_yuan(out: &mut [u8], at: usize, sign: &[u8], fen: u64) -> usize
     requires { (at + 22 ≤ length out.old) × (length sign.now ≤ 1) }
     ensures { Put out.old out.new at result (right 22 (sign.now ++ yuan fen)) × (result ≡ at + 22) }
