@@ -20,6 +20,7 @@ use payments::{charge, fault, pay, punish, set_stage, value};
 // ---- Measure
 
 // The weight rule for the cargo of a match: "D = units × T × 1,000 kg".
+#[tactic(auto, using(coal::proofs::laws::Bounds::coal_needs, crate::proofs::Weighing::weighing))]
 fn cargo(c: Match, tonnes: u64, w: u64, m: u64) -> Weighed
     requires units_bound { c.units ≤ 1_000 }
     requires tonnes_bound { tonnes ≤ 20_000 }
@@ -30,6 +31,7 @@ fn cargo(c: Match, tonnes: u64, w: u64, m: u64) -> Weighed
 }
 
 // "works out amount B": of P the match's price, H its declared heat, the settled weight, and the measured values.
+#[tactic(auto, using(coal::proofs::laws::Bounds::coal_needs, crate::proofs::Weighing::weighing))]
 fn amount_due(c: Match, weight: u64, q: u64, s: u64, f: u64, a: u64) -> u64
     requires price_bound { c.price ≤ 1_000_000 }
     requires heat_bound { heat_value c.heat ≤ 10_000 }
@@ -43,6 +45,7 @@ fn amount_due(c: Match, weight: u64, q: u64, s: u64, f: u64, a: u64) -> u64
 }
 
 // "buyer gets V back and pays B; seller gets 80% of B, down; the rest is held; stage held."
+#[tactic(auto, using(payments::specs::Money::money), unfolding(book::specs::Settlement::measured))]
 fn measured(book: Book, number: u64, m: Match, v: u64, amount: u64) -> Book
     requires due { Due book number m v }
     requires amount_le_most_paid { amount ≤ most_paid }
@@ -64,6 +67,7 @@ fn out_of_range(w: u64, q: u64, m: u64, s: u64, f: u64, a: u64) -> bool
 }
 
 // The number with which Measure is refused, by the row at the match's place; 0 where it is accepted.
+#[tactic(auto, using(rows::specs::Places::match_found, rows::specs::Needs::calls, crate::proofs::Weighing::any_of_six), unfolding(book::specs::Settlement::measure))]
 pub fn measure_refusal(
     book: Book,
     c: Match,
@@ -121,6 +125,7 @@ pub fn measure(book: Book, number: u64, w: u64, q: u64, m: u64, s: u64, f: u64, 
 // ---- Terminate
 
 // "buyer gets V back; party or parties at fault pay R% of V as above; ended.": whoever is named is at fault, fit or not.
+#[tactic(auto, using(payments::specs::Money::money), unfolding(book::specs::Settlement::terminated))]
 fn terminated(book: Book, number: u64, m: Match, v: u64, party: u64) -> Book
     requires { Due book number m v }
     ensures { result ≡ terminated book number m party }
@@ -133,6 +138,7 @@ fn terminated(book: Book, number: u64, m: Match, v: u64, party: u64) -> Book
 }
 
 // The number with which Terminate is refused, by the row at the match's place; 0 where it is accepted.
+#[tactic(auto, using(rows::specs::Places::match_found, rows::specs::Needs::calls), unfolding(book::specs::Settlement::terminate))]
 pub fn terminate_refusal(book: Book, m: Match, number: u64, party: u64) -> u64
     requires reached { Reached book }
     requires m_value { m ≡ match_at book (place 256 number) }

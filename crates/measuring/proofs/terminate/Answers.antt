@@ -1,0 +1,42 @@
+-- Terminate is refused by its number, or the buyer is repaid and the penalties are paid. Assumes nothing.
+use Rattle.std.proofs.Common.{◌≡◌, ℕ, ◌<◌, ◌∙◌}
+use Rattle.book.specs.declared.Book.{Book}
+use Rattle.book.specs.declared.Call.{Call}
+use Rattle.book.specs.Answers.{refusal_of}
+use Rattle.book.specs.Settlement.{terminate}
+use Rattle.book.specs.Calls.{step}
+use Rattle.book.specs.Lists.{Reached}
+use Rattle.book.proofs.laws.Answered.{refused_is, terminate_accepted}
+use Rattle.rows.specs.Needs.{match_there, calls}
+use Rattle.rows.specs.Places.{place, at_place}
+use Rattle.payments.specs.Money.{due_sound}
+use Rattle.measuring.proofs.terminate.Goals as goal
+
+-- where nothing refuses the call, the match is there, and its place is its number
+module _ (b : Book) (r : Reached b) (j party n k : ℕ) (e : n ≡ refusal_of (terminate b j party).answer) (h : n ≡ 0) (p : (k ≡ place 256 j) × (k < 256)) where
+  there : j < b.match_count
+  there = (terminate_accepted b j party e h).0.there
+
+  found : k ≡ j
+  found = p.0 ∙ at_place 256 j (match_there b r j there)
+
+pub returns-then-refused-ne0 : goal.returns-then-refused-ne0
+unfolding step
+returns-then-refused-ne0 c = refused_is _ (Call.Terminate _ _) c.terminate_refusal-refused.ensures c.if-refused-ne0.true
+
+pub value-v-requires : goal.value-v-requires
+value-v-requires c =
+    let t = there _ c.requires _ _ _ _ c.terminate_refusal-refused.ensures c.if-refused-ne0.false c.match_place-j.ensures in
+    let f = found _ c.requires _ _ _ _ c.terminate_refusal-refused.ensures c.if-refused-ne0.false c.match_place-j.ensures in
+    rw f (search (calls, t))
+
+pub terminated-next-requires : goal.terminated-next-requires
+terminated-next-requires c =
+    let t = there _ c.requires _ _ _ _ c.terminate_refusal-refused.ensures c.if-refused-ne0.false c.match_place-j.ensures in
+    let f = found _ c.requires _ _ _ _ c.terminate_refusal-refused.ensures c.if-refused-ne0.false c.match_place-j.ensures in
+    rw f (due_sound _ c.requires _ t _ (rw f at c.value-v.ensures.value) c.value-v.ensures.upper_bound)
+
+pub returns : goal.returns
+returns c =
+    let f = found _ c.requires _ _ _ _ c.terminate_refusal-refused.ensures c.if-refused-ne0.false c.match_place-j.ensures in
+    rw (c.terminated-next.ensures, f) (terminate_accepted _ _ _ c.terminate_refusal-refused.ensures c.if-refused-ne0.false).1
