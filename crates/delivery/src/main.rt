@@ -3,6 +3,8 @@
 
 ghost use Rattle.std.specs.Prelude.{◌≡◌, length};
 
+use std::io;
+
 // One byte more than an input may have, which shows that it is longer.
 fn input_buffer() -> [u8; 65537]
     ensures { 65537 ≡ length result }
@@ -17,10 +19,10 @@ fn output_buffer() -> [u8; 848427]
     [0; 848427]
 }
 
-fn main() {
+fn main(rt: HostRuntime) -> io::Result<()> {
     let mut input = input_buffer();
-    let n = io::read_full(0, &mut input);
+    let n = filling::read_full(&mut rt.stdin(), &mut input)?;
     let mut out = output_buffer();
     let r = session::session(&input[..n], &mut out);
-    io::write_all(1, &out[..r]);
+    rt.write_all(&out[..r])
 }

@@ -3,6 +3,8 @@
 
 ghost use Rattle.std.specs.Prelude.{◌≡◌, length};
 
+use std::io;
+
 // Room for the table: 1,701 lines of 11 bytes.
 fn output_buffer() -> [u8; 18711]
     ensures { 18711 ≡ length result }
@@ -10,8 +12,8 @@ fn output_buffer() -> [u8; 18711]
     [0; 18711]
 }
 
-fn main() {
+fn main(rt: HostRuntime) -> io::Result<()> {
     let mut out = output_buffer();
     let r = heat_text::put_table(&mut out, 0);
-    io::write_all(1, &out[..r]);
+    rt.write_all(&out[..r])
 }
