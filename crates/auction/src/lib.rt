@@ -15,6 +15,7 @@ use coal::rounding::percent_down;
 use payments::{charge, free_again, handed, pay, set_stage, value};
 
 // "the winner pays the proceeds to the buyer and takes the receipts, the seller gets 80% and the rest is held as before."
+#[tactic(auto, using(payments::specs::Money::money), unfolding(book::specs::Settlement::sold))]
 fn sold(book: Book, number: u64, m: Match, v: u64, winner: u64, proceeds: u64) -> Book
     requires due { Due book number m v }
     requires winner_bound { winner < 32 }
@@ -28,6 +29,7 @@ fn sold(book: Book, number: u64, m: Match, v: u64, winner: u64, proceeds: u64) -
 }
 
 // "the buyer gets V back, pays the seller 20% of V, down, the match is ended and the receipts are freed"
+#[tactic(auto, using(payments::specs::Money::money), unfolding(book::specs::Settlement::unsold, book::specs::Settlement::free_again, book::specs::Tables::pay, book::specs::Tables::charge))]
 fn unsold(book: Book, number: u64, m: Match, v: u64) -> Book
     requires { Due book number m v }
     ensures { result ≡ unsold book number m v }
@@ -43,6 +45,7 @@ fn unsold(book: Book, number: u64, m: Match, v: u64) -> Book
 }
 
 // By the proceeds: "Proceeds of zero mean nobody bid".
+#[tactic(auto, unfolding(book::specs::Settlement::auctioned))]
 fn auctioned(book: Book, number: u64, m: Match, v: u64, winner: u64, proceeds: u64) -> Book
     requires due { Due book number m v }
     requires winner_bound { winner < 32 }
@@ -71,6 +74,7 @@ fn cannot_pay(taker: Account, proceeds: u64) -> bool
 }
 
 // The number with which Auction is refused, by the rows at the places of the match and of the winner; 0 where it is accepted.
+#[tactic(auto, using(rows::specs::Places::account_found, rows::specs::Places::match_found, rows::specs::Needs::calls), unfolding(book::specs::Settlement::auction))]
 pub fn auction_refusal(
     book: Book,
     m: Match,
