@@ -1,5 +1,5 @@
 -- What the proofs of this crate share. Assumes nothing.
-use Rattle.std.proofs.Common.{◌≡◌, ℕ, ◌*◌, ◌≤◌, ◌<◌, le_refl, mul-le-mul}
+use Rattle.std.proofs.Common.{◌≡◌, ℕ, ◌*◌, ◌≤◌, le_refl, mul-le-mul}
 use Rattle.heats.specs.Numerators.{numerator, denominator, numerator_most}
 use Rattle.coal.specs.Coal.{half_even, price_by_heat, less_short_heat, less_sulphur, by_sulphur}
 use Rattle.coal.proofs.laws.Bounds.{less_short_heat_most, less_sulphur_most, by_sulphur_most}

@@ -1,6 +1,6 @@
 -- Pay, with Hand over directly after it in a receipts book without a fault, gives what Settle gives, but for a match that goes to auction. By cases on the
 -- tests, the faults, the kind of book and whether it goes there. Assumes nothing.
-use Rattle.std.specs.Prelude.{◌≡◌, Bool, not, ◌&&◌, ℕ, ◌-◌, ◌<◌, ltb, leb, length}
+use Rattle.std.specs.Prelude.{◌≡◌, Bool, not, ◌&&◌, ℕ, ◌<◌, ltb, leb, length}
 use Rattle.std.proofs.Math.Path.{refl, ap}
 use Rattle.std.proofs.Math.Bool.{true, false}
 use Rattle.std.proofs.Common.{arith, set-set}

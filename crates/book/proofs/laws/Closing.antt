@@ -15,7 +15,7 @@ use Rattle.book.specs.Counting.{lowest, those, tally, one_if}
 use Rattle.book.specs.Rows.{blank_account, lots_of, is_long, is_short, any_class, bonded_only, with_offer, units_off}
 use Rattle.book.specs.Tables.{account_at}
 use Rattle.book.specs.Pairing.{pair}
-use Rattle.book.specs.Closing.{use_up, walk, walked, joined, pair_all, is_buyer, is_seller, is_overseas_buyer, with_units, with_lot, lots_in_order, overseas_lots, bonded_offer, bonded_sellers, buyers, sellers, first_pass, pair_whole, equal_seller, second_turn, second_pass, third_pass, all_passes, lapse_turn, lapse_offers}
+use Rattle.book.specs.Closing.{use_up, walked, joined, pair_all, is_buyer, is_seller, is_overseas_buyer, with_units, with_lot, lots_in_order, overseas_lots, bonded_offer, bonded_sellers, buyers, sellers, first_pass, pair_whole, equal_seller, second_turn, second_pass, third_pass, all_passes, lapse_turn, lapse_offers}
 use Rattle.book.specs.Ages.{lots_total}
 use Rattle.book.proofs.laws.Counting.{by_pick, by_eq, rows_add, and_left, and_right, iter_keeps, at_set, tally_sum, one_most, tally_two, tally_either, tally_none, tally_one, tally_few, only, only_else, only_most}
 use Rattle.book.proofs.laws.Sound.{AccountTable, Core}

@@ -11,7 +11,7 @@ use Rattle.book.specs.Closing.{lapse_offers}
 use Rattle.book.specs.Settlement.{value}
 use Rattle.book.specs.Entries.{Entry}
 use Rattle.book.specs.Lists.{Reached, opened, called}
-use Rattle.book.specs.PaidFor.{PaidFor, EachPaidFor}
+use Rattle.book.specs.PaidFor.{EachPaidFor}
 use Rattle.book.proofs.laws.Counting.{by_pick, by_eq, tally_most, impossible}
 use Rattle.book.proofs.laws.Answered.{Answered, answered, of_opening}
 use Rattle.book.proofs.laws.Sound.{frozen_of, Core, SoundTables}
