@@ -1,5 +1,5 @@
 /* The delivery book of one contract month: one session from a buffer to a buffer, or the page of the book after it; and the heat table of the coal price.
-   Link with target/staticlib/libfirmware.a, which `rt staticlib firmware` writes. */
+   Link with crates/firmware/out/libfirmware.a, which `rt lib` in crates/firmware writes. */
 #ifndef DELIVERY_H
 #define DELIVERY_H
 
