@@ -92,6 +92,7 @@ fn put_terms(out: &mut [u8], at: usize, units: u64, price: u64, stage: u64, held
     put_field(out, z, 16, held)
 }
 
+#[tactic(auto, using(text::proofs::Columns::stage_few))]
 fn put_match_line(out: &mut [u8], at: usize, number: usize, m: Match) -> usize
     requires { (at + 41 ≤ length out.old) × (number < 1_000) × (m.price < 100_000_000) × (m.held < 10_000_000_000_000_000) }
     ensures { Put out.old out.new at result (line (match_columns number m)) × (result ≡ at + 41) }
@@ -114,6 +115,7 @@ fn put_count_line(out: &mut [u8], at: usize, word: &[u8], n: u64) -> usize
     put_byte(out, z, 10)
 }
 
+#[tactic(auto, using(text::proofs::Printing::put_none), unfolding(text::specs::Ledger::each))]
 fn put_account_section(
     out: &mut [u8],
     at: usize,
@@ -131,6 +133,7 @@ fn put_account_section(
     w
 }
 
+#[tactic(auto, using(text::proofs::Printing::put_none), unfolding(text::specs::Ledger::each))]
 fn put_receipt_section(
     out: &mut [u8],
     at: usize,
@@ -148,6 +151,7 @@ fn put_receipt_section(
     w
 }
 
+#[tactic(auto, using(text::proofs::Printing::put_none), unfolding(text::specs::Ledger::each))]
 fn put_match_section(out: &mut [u8], at: usize, rows: [Match; Book::MATCHES], count: usize) -> usize
     requires count_in_bounds { (at + 41 + 41 * count ≤ length out.old) × (count ≤ 256) }
     requires by_index { (j : ℕ) → j < count → (((get_or rows j blank_match).price < 100_000_000) × ((get_or rows j blank_match).held < 10_000_000_000_000_000)) }
@@ -162,6 +166,7 @@ fn put_match_section(out: &mut [u8], at: usize, rows: [Match; Book::MATCHES], co
 }
 
 // The page of a book, at the front of a lent buffer: the answer carries its length; 27, and nothing is written, where the buffer is too short.
+#[tactic(auto, using(text::proofs::Columns::few, text::proofs::Columns::fit))]
 pub fn put_page(out: &mut [u8], book: Book) -> Answer
     requires { Reached book }
     ensures { (result ≡ page_answer book out.old) × (out.new ≡ lent (page book) out.old) }
