@@ -20,6 +20,10 @@ digits_long (suc k) n h =
     let g : 10 ^ k * 10 ≤ n = rw (pow-suc 10 k) at h in
     omega (arith, digits_longer n (omega (arith, one-le-pow k 10 (omega arith))), digits_long k (n / 10) (omega arith))
 
+-- a number below 10 ^ 10 has at most ten
+pub digits_ten : (n : ℕ) → n < 10 ^ 10 → length (digits n) ≤ 10
+digits_ten n h = digits_short 9 n h
+
 -- place k has the entry of the heat 4,300 + k
 at_place : (k : ℕ) → k < 1_701 → get_or heat_table k 0 ≡ numerator (4_300 + k)
 unfolding heat_table
