@@ -8,6 +8,7 @@ ghost use Rattle.book.specs.Lists.{Reached};
 use book::{Book, Call, Outcome};
 
 // The answer to a call, and the book that it leaves.
+#[tactic(auto, unfolding(book::specs::Calls::step))]
 pub fn apply(book: Book, call: Call) -> Outcome
     requires { Reached book }
     ensures { result ≡ step book call }

@@ -51,6 +51,7 @@ fn of_bid(number: u64, winner: u64) -> Named
 }
 
 // The rows that a call names whose refusal shows from them; 0 for what it does not name.
+#[tactic(auto, unfolding(crate::specs::Early::rows_named))]
 pub fn rows_named(call: Call) -> Named
     ensures { result ≡ rows_named call }
 {
@@ -78,6 +79,7 @@ pub fn rows_named(call: Call) -> Named
 }
 
 // The number with which Trade, Offer, Take, Close or a call of settlement is refused, by the rows at the places that it names; 0 where it is accepted, and for every other call.
+#[tactic(auto, unfolding(crate::specs::Early::rows_named, crate::specs::Early::early, book::specs::Calls::step))]
 pub fn early(book: Book, call: Call, pair: Match, bought: Account, sold: Account) -> u64
     requires reached { Reached book }
     requires pair_value { pair ≡ match_at book (place 256 (rows_named call).pair) }
