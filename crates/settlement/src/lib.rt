@@ -26,7 +26,7 @@ struct Frozen {
 }
 
 // Of the first receipts of a table, how many are frozen for a match, and how many of them are ordinary.
-#[tactic(auto, using(rows::specs::Loops::none_counted, rows::specs::Loops::one_counted, rows::specs::Loops::all_counted), unfolding(book::specs::Tables::frozen_at, book::specs::Tables::ordinary_at))]
+#[tactic(auto, using(rows::specs::Loops::none_counted))]
 fn frozen_receipts(receipts: [Receipt; Book::RECEIPTS], count: usize, number: u64) -> Frozen
     requires { count ≤ 256 }
     ensures all_value { result.all ≡ tally count 0 (frozen_at receipts number) }
