@@ -1,5 +1,5 @@
 // Calls 7 to 9: Declare, Offer, Retract.
-#![tactic(auto, using(rows::specs::Chain::chain, rows::specs::Needs::calls), unfolding(book::specs::Offers::declare, book::specs::Offers::offer, book::specs::Offers::retract, book::specs::Tables::free_receipts))]
+#![tactic(auto, using(rows::specs::Needs::calls), unfolding(book::specs::Offers::declare, book::specs::Offers::offer, book::specs::Offers::retract, book::specs::Tables::free_receipts))]
 
 ghost use Rattle.std.specs.Prelude.{◌≡◌, ◌&&◌};
 ghost use Rattle.book.specs.Rows.{heat_missing};

@@ -1,5 +1,5 @@
 // Pairing, and call 10: Take.
-#![tactic(auto, using(rows::specs::Chain::chain, rows::specs::Needs::calls), unfolding(book::specs::Pairing::pair, book::specs::Pairing::freeze, book::specs::Offers::take_offer, book::specs::Tables::free_receipts))]
+#![tactic(auto, using(rows::specs::Needs::calls), unfolding(book::specs::Pairing::pair, book::specs::Pairing::freeze, book::specs::Offers::take_offer, book::specs::Tables::free_receipts))]
 
 ghost use Rattle.std.specs.Prelude.{◌≡◌, ◌≤◌, ◌<◌, ◌+◌};
 ghost use Rattle.book.specs.Counting.{iter};
