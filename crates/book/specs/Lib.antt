@@ -10,6 +10,7 @@ pub mod Receipts
 pub mod Pairing
 pub mod Offers
 pub mod Closing
+pub mod Joining
 pub mod Settlement
 pub mod Settle
 pub mod Calls

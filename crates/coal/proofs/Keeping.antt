@@ -1,8 +1,8 @@
 -- What the proofs of this crate share. Assumes nothing.
 use Rattle.std.proofs.Common.{◌≡◌, ℕ, ◌*◌, ◌≤◌, le_refl, mul-le-mul}
 use Rattle.heats.specs.Numerators.{numerator, denominator, numerator_most}
-use Rattle.coal.specs.Coal.{half_even, price_by_heat, less_short_heat, less_sulphur, by_sulphur}
-use Rattle.coal.proofs.laws.Bounds.{less_short_heat_most, less_sulphur_most, by_sulphur_most}
+use Rattle.coal.specs.Coal.{half_even, price_by_heat, less_short_heat, less_sulphur, by_sulphur, by_volatiles_or_ash}
+use Rattle.coal.proofs.laws.Bounds.{less_short_heat_most, less_sulphur_most, by_sulphur_most, by_volatiles_or_ash_most}
 use Rattle.coal.proofs.laws.HeatTable.{by_numerator}
 
 -- no step makes a price more
@@ -15,6 +15,9 @@ module _ (x : ℕ) where
 
   pub sulphur_kept : (s : ℕ) → by_sulphur s x ≤ x
   sulphur_kept s = by_sulphur_most (le_refl x) s
+
+  pub outside_kept : (f a : ℕ) → by_volatiles_or_ash f a x ≤ x
+  outside_kept f a = by_volatiles_or_ash_most (le_refl x) f a
 
 -- P times a numerator is far from 64 bits
 pub entry_most : (p n e : ℕ) → n ≡ numerator e → p ≤ 1_000_000 → e ≤ 6_000 → p * n ≤ 5_400_000_000_000_000

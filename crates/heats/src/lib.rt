@@ -1713,7 +1713,6 @@ const NUMERATORS: [u64; 1_701] = [
 pub const DENOMINATOR: u64 = 4_950_000_000;
 
 // The whole table.
-#[tactic(auto, unfolding(crate::specs::Each::each, crate::specs::Numerators::numerator, crate::specs::Numerators::heat_table))]
 pub fn numerators() -> [u64; 1_701]
     ensures { result ≡ heat_table }
 {

@@ -22,7 +22,8 @@ use Rattle.book.proofs.laws.Sound.{AccountTable, Core}
 use Rattle.book.proofs.laws.Pairing.{Pairable, long_side, short_side, pairable, Paired, pair_core, paired_accounts, paired_matches, paired_buyer, paired_row, paired_sum}
 use Rattle.book.proofs.laws.Walking.{All, all_map, all_of, sum_of, left_of, use_up_left, use_up_length, Member, Listing, Passed, walk_keeps}
 use Rattle.book.proofs.laws.Listing.{those_all, those_length, listed, listed_length, listed_left, listed_climbing, lots_all, lots_counted, lots_few}
-use Rattle.book.proofs.laws.Joining.{join_lots, joins_all, Some, joins_left, joins_length, joined_walked}
+use Rattle.book.specs.Joining.{join_lots}
+use Rattle.book.proofs.laws.Joining.{joins_all, Some, joins_left, joins_length, joined_walked}
 use Rattle.book.proofs.laws.Joining as Joining
 
 -- ---- who is listed

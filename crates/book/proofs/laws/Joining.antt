@@ -9,21 +9,13 @@ use native.Mathlib.Omega.{arith}
 use borrow.Author.Tests.{ltb-true, ltb-false, eqb-true, eqb-false, eq-eqb, ne_eqb}
 use Rattle.coal.specs.Choice.{pick}
 use Rattle.book.specs.Types.{Listed}
+use Rattle.book.specs.Joining.{join_lot, join_lots}
 use Rattle.book.specs.Closing.{Pair, use_up, walk, walked, join_pair, joined}
 use Rattle.book.proofs.laws.Counting.{by_pick, only, only_plus}
 use Rattle.book.proofs.laws.Walking.{All, sum_of, left_of, use_up_all, use_up_length}
 use Rattle.book.proofs.laws.Listing.{Climbing}
 
 -- ---- neighbouring lots of one account
-
--- a lot before a list of lots
-unfoldable pub join_lot : Listed → List Listed → List Listed
-join_lot x [] = x ∷ []
-join_lot x (y ∷ ys) = pick (eqb x.account y.account) (record { account = x.account; left = x.left + y.left; day = y.day } ∷ ys) (x ∷ y ∷ ys)
-
-unfoldable pub join_lots : List Listed → List Listed
-join_lots [] = []
-join_lots (x ∷ xs) = join_lot x (join_lots xs)
 
 -- what holds of each lot, and of two of one account as one, holds of them joined
 module _ (P : Listed → Type 0) (both : (x y : Listed) → P x → P y → P (record { account = x.account; left = x.left + y.left; day = y.day })) where

@@ -12,7 +12,7 @@ use Rattle.book.proofs.laws.Counting.{by_pick, only, only_most, only_plus, only_
 use Rattle.book.proofs.laws.Sound.{SoundAccount}
 use Rattle.book.proofs.laws.Walking.{All, all_map, sum_of}
 use Rattle.book.proofs.laws.Listing.{Rising, ByDay}
-use Rattle.book.proofs.laws.Joining.{join_lot, join_lots}
+use Rattle.book.specs.Joining.{join_lot, join_lots}
 
 -- ---- what an account gets
 

@@ -49,7 +49,7 @@ module _ {x m : ℕ} (k : x ≤ m) where
   by_sulphur_most s =
       pick_most (ltb 250 s) _ _ _ (λ _. percent_half_up_most 50 (omega arith)) (λ _. pick_most (ltb 150 s) _ _ _ (λ _. percent_half_up_most 80 (omega arith)) (λ _. k))
 
-  by_volatiles_or_ash_most : (f a : ℕ) → by_volatiles_or_ash f a x ≤ m
+  pub by_volatiles_or_ash_most : (f a : ℕ) → by_volatiles_or_ash f a x ≤ m
   unfolding by_volatiles_or_ash
   by_volatiles_or_ash_most f a = pick_most (outside f a) _ _ _ (λ _. percent_half_up_most 80 (omega arith)) (λ _. k)
 
