@@ -19,6 +19,7 @@ pub struct Ran {
 }
 
 // An answer's line, where it is wanted.
+#[tactic(auto, using(text::proofs::Printing::put_none))]
 fn put_reply(out: &mut [u8], at: usize, answer: Answer, wanted: bool) -> usize
     requires { wanted ≡ true → at + 24 ≤ length out.old }
     ensures { Put out.old out.new at result (pick wanted (answer_line answer) []) × (result ≤ at + 24) }
@@ -31,6 +32,7 @@ fn put_reply(out: &mut [u8], at: usize, answer: Answer, wanted: bool) -> usize
 }
 
 // The calls of the lines from a place on; their answers are printed where they are wanted.
+#[tactic(auto, using(reader::proofs::Cutting::end_past, reader::proofs::Cutting::end_within))]
 pub fn run(book: Book, s: &[u8], from: usize, out: &mut [u8], at: usize, wanted: bool) -> Ran
     requires reached { Reached book }
     requires from_in_bounds { from ≤ length s.now }
