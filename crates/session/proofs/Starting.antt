@@ -14,6 +14,7 @@ use Rattle.book.specs.declared.Answer.{Answer}
 use Rattle.book.specs.declared.Outcome.{Outcome}
 use Rattle.book.specs.declared.Call.{Call}
 use Rattle.book.specs.Answers.{refuse, accept, is_accepted}
+use Rattle.book.specs.Calls.{step}
 use Rattle.book.specs.Opening.{opening, no_book}
 use Rattle.book.specs.Lists.{Reached, opened as reached-opening, called, after}
 use Rattle.book.specs.Demand3.{Holds}
@@ -79,8 +80,8 @@ begun s = by_pick (λ (o : Outcome). is_accepted o.answer ≡ true → Begun s o
 
 after_reached : {b : Book} (cs : List Call) → Reached b → Reached (after b cs)
 unfolding after
-after_reached [] h = h
-after_reached (c ∷ cs) h = after_reached cs (called c h)
+after_reached {b = b} [] h = h
+after_reached {b = b} (c ∷ cs) h = after_reached {b = (step b c).book} cs (called c h)
 
 pub followed_reached : {ls : List (List ℕ)} {b : Book} {wanted : Bool} {x y : List ℕ} {at end : ℕ} {r : Ran} → Followed ls b wanted x y at end r → Reached b → Reached r.book
 followed_reached {ls} f h = rw f.book (after_reached (calls_of ls) h)

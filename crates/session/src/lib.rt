@@ -25,6 +25,7 @@ fn no_opening() -> Outcome
 }
 
 // "Line one is `0 kind T R price`": its outcome.
+#[tactic(auto, using(crate::proofs::Starting::too_long))]
 fn line_one(input: &[u8]) -> Outcome
     ensures { result ≡ line_one input.now }
 {
@@ -46,6 +47,7 @@ fn line_one(input: &[u8]) -> Outcome
 }
 
 // "It reads standard input": the output of a session, for every input, written from the start of `out`; how many bytes it has.
+#[tactic(auto, using(crate::proofs::Starting::first_within))]
 pub fn session(input: &[u8], out: &mut [u8]) -> usize
     requires { room ≤ length out.old }
     ensures { Delivered input.now out.old out.new result }
@@ -64,6 +66,7 @@ pub fn session(input: &[u8], out: &mut [u8]) -> usize
 }
 
 // Line one's answer and, where that is accepted, the book after the session; nothing is printed.
+#[tactic(auto, using(crate::proofs::Starting::first_within))]
 fn outcome(input: &[u8]) -> Outcome
     ensures { result ≡ outcome input.now }
 {
