@@ -1,7 +1,7 @@
 #!/usr/bin/env python3
 """Brings the repository's own definitions and lemmas to one spelling: words joined by `_`, types in camel case.
 
-usage: python3 tools/respell.py            once, at the top of the repository, after /opt/rattle/port/port.py
+usage: python3 tools/respell.py            once, at the top of the repository, after port.py of today's Rattle
        python3 tools/respell.py --list     says what would be renamed, and what falls together; writes nothing
 
 A name is the repository's own where a file of crates/*/specs or crates/*/proofs declares it: a definition, lemma, record, field or constructor.

@@ -81,7 +81,7 @@ pub amount_most : (x w : ℕ) → x ≤ most_price → w ≤ most_weight → amo
 unfolding half_up amount
 amount_most x w h k = omega (arith, mul-le-mul h k)
 
--- the same of a result that a function promises, for a caller's `search (coal_needs, needs)`
+-- the same of a result that a function promises, for callers
 pub priced : (p h q s f a r : ℕ) → r ≡ coal_price p h q s f a → p ≤ most_match_price → r ≤ most_price
 priced p h q s f a r e k = rw e (coal_price_most p h q s f a k)
 
