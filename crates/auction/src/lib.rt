@@ -7,7 +7,7 @@ ghost use Rattle.book.specs.Answers.{refusal_of};
 ghost use Rattle.book.specs.Tables.{account_at, match_at};
 ghost use Rattle.book.specs.Settlement.{sold, unsold, auctioned, auction};
 ghost use Rattle.book.specs.Lists.{Reached};
-ghost use Rattle.rows.specs.Places.{place};
+ghost use Rattle.reached.specs.Places.{place};
 ghost use Rattle.payments.specs.Money.{most_paid, Due};
 
 use book::{Account, Answer, Book, Match, Outcome, Stage};
@@ -74,7 +74,7 @@ fn cannot_pay(taker: Account, proceeds: u64) -> bool
 }
 
 // The number with which Auction is refused, by the rows at the places of the match and of the winner; 0 where it is accepted.
-#[tactic(auto, using(rows::specs::Places::account_found, rows::specs::Places::match_found, rows::specs::Needs::calls), unfolding(book::specs::Settlement::auction))]
+#[tactic(auto, using(reached::specs::Places::account_found, reached::specs::Places::match_found, reached::specs::Needs::calls), unfolding(book::specs::Settlement::auction))]
 pub fn auction_refusal(
     book: Book,
     m: Match,

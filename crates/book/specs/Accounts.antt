@@ -1,14 +1,18 @@
 -- Calls 1 to 4: Join, Deposit, Withdraw, Trade. Assumes nothing.
-use Rattle.std.specs.Prelude.{not, ℕ, ◌+◌, ltb, leb, eqb, pos}
+use Rattle.std.specs.Prelude.{Bool, not, ℕ, ◌+◌, ltb, leb, eqb, pos, None}
 use Rattle.std.specs.Int.Signed.{lt_z}
-use Rattle.book.specs.Types.{Side, Heat, Offer, Account, Book, Outcome}
+use Rattle.book.specs.Types.{Side, Account, Book, Outcome}
 use Rattle.book.specs.Rows.{no_lots, units_on, needs_fifth, is_long, is_short}
 use Rattle.book.specs.Tables.{account_at, put_account, add_account, with_deposited, pay, charge}
 use Rattle.book.specs.Answers.{refuse_if, accept}
 
--- "residence (0 domestic, 1 overseas), fitness (0 unfit, 1 fit)"; "It joins with cash 0, side none, .. and both missing", and with no lot.
+-- "It joins with cash 0, side none, .. and both missing", and with no lot.
+abbrev pub joined_account : Bool → Bool → Account
+joined_account overseas fit = record { cash = pos 0; units = 0; lots = no_lots; heat = None; offer = None; side = Side.Flat; overseas = overseas; fit = fit }
+
+-- "residence (0 domestic, 1 overseas), fitness (0 unfit, 1 fit)"
 abbrev pub new_account : ℕ → ℕ → Account
-new_account residence fitness = record { cash = pos 0; units = 0; lots = no_lots; heat = Heat.Missing; offer = Offer.Missing; side = Side.Flat; overseas = eqb residence 1; fit = eqb fitness 1 }
+new_account residence fitness = joined_account (eqb residence 1) (eqb fitness 1)
 
 -- "1 Join residence, fitness; carries the account number."
 unfoldable pub join : Book → ℕ → ℕ → Outcome

@@ -1,15 +1,15 @@
 -- Pay and Hand over against Settle, the statement, in the words of document 02, Jobs 6 and 7. Assumes nothing.
-use Rattle.std.specs.Prelude.{◌≡◌, Bool, true, false, not, ◌&&◌, ℕ}
-use Rattle.book.specs.Types.{Book, Fault}
+use Rattle.std.specs.Prelude.{◌≡◌, Bool, true, false, not, ◌&&◌, ℕ, Option, Some, None}
+use Rattle.book.specs.Types.{Book}
 use Rattle.book.specs.Tables.{match_at}
 use Rattle.book.specs.Answers.{is_accepted}
 use Rattle.book.specs.Settlement.{buyer_fault, seller_fault, to_auction, pay_match, hand_over}
 use Rattle.book.specs.Settle.{settle}
 use Rattle.book.specs.Lists.{Reached}
 
-abbrev pub is_faultless : Fault → Bool
-is_faultless Fault.Faultless = true
-is_faultless (Fault.Percent x) = false
+abbrev pub is_faultless : Option ℕ → Bool
+is_faultless None = true
+is_faultless (Some x) = false
 
 -- match j is "in a receipts book without a fault"
 unfoldable pub without_fault : Book → ℕ → Bool

@@ -1,8 +1,9 @@
 -- Who is told no: "A refusal is one number; the book is unchanged. If several apply, the lowest is given": each call asks its conditions in
 -- rising number, so that "a condition about an account, receipt or match that isn't there doesn't apply". Assumes nothing.
-use Rattle.std.specs.Prelude.{Bool, true, false, List, [], ◌∷◌, ℕ}
+use Rattle.std.specs.Prelude.{Bool, true, false, List, [], ◌∷◌, ℕ, Result, Ok, Err}
 use Rattle.coal.specs.Choice.{pick}
-use Rattle.book.specs.Types.{Book, Answer, Outcome}
+use Rattle.book.specs.Types.{Refusal, Book, Answer, Outcome}
+use Rattle.book.specs.Codes.{refusal_number}
 
 -- a refusal with number n
 abbrev pub refuse : ℕ → Book → Outcome
@@ -30,3 +31,19 @@ answer_values (Answer.Refused n) = n ∷ []
 abbrev pub refusal_of : Answer → ℕ
 refusal_of (Answer.Accepted n) = 0
 refusal_of (Answer.Refused n) = n
+
+-- ---- the result of a function
+
+-- the answer that it is: the number carried, or that of the refusal
+abbrev pub answer_of : Result ℕ Refusal → Answer
+answer_of (Ok n) = Answer.Accepted n
+answer_of (Err e) = Answer.Refused (refusal_number e)
+
+-- with the book that is left
+abbrev pub outcome : Result ℕ Refusal → Book → Outcome
+outcome r b = record { answer = answer_of r; book = b }
+
+-- the number of a refusal; 0 where there is none
+abbrev pub refusal : {A : Type 0} → Result A Refusal → ℕ
+refusal (Ok x) = 0
+refusal (Err e) = refusal_number e

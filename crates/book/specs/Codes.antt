@@ -1,6 +1,6 @@
 -- Document 01's number for each case of an enum. Assumes nothing.
 use Rattle.std.specs.Prelude.{Bool, true, false, ℕ}
-use Rattle.book.specs.Types.{Side, ReceiptState, Stage, Call}
+use Rattle.book.specs.Types.{Sample, Refusal, Side, ReceiptState, Stage, Call}
 
 -- "a side (0 none, 1 long, 2 short)"
 abbrev pub side_number : Side → ℕ
@@ -29,6 +29,43 @@ stage_number Stage.Ended = 4
 stage_number Stage.Funded = 5
 stage_number Stage.Awaiting = 6
 
+-- "A refusal is one number"
+abbrev pub refusal_number : Refusal → ℕ
+refusal_number Refusal.OutOfRange = 1
+refusal_number Refusal.LastDay = 2
+refusal_number Refusal.AccountsFull = 3
+refusal_number Refusal.OtherKind = 4
+refusal_number Refusal.MarketShut = 5
+refusal_number Refusal.NoAccount = 6
+refusal_number Refusal.BuyerIsSeller = 7
+refusal_number Refusal.OutsideSet = 8
+refusal_number Refusal.OtherSide = 9
+refusal_number Refusal.PositionFull = 10
+refusal_number Refusal.AboveCash = 11
+refusal_number Refusal.OfferStands = 12
+refusal_number Refusal.NoOffer = 13
+refusal_number Refusal.AboveUnits = 14
+refusal_number Refusal.AboveReceipts = 15
+refusal_number Refusal.ReceiptsFull = 16
+refusal_number Refusal.NoReceipt = 17
+refusal_number Refusal.ReceiptFrozen = 18
+refusal_number Refusal.HeatMissing = 19
+refusal_number Refusal.TakesFull = 20
+refusal_number Refusal.NoMatch = 21
+refusal_number Refusal.WrongStage = 22
+refusal_number Refusal.BeforeDueDay = 23
+refusal_number Refusal.Unmeasurable = 24
+refusal_number Refusal.DepositsFull = 25
+refusal_number Refusal.BadLine = 26
+refusal_number Refusal.BufferShort = 27
+refusal_number Refusal.FifthDay = 28
+refusal_number Refusal.OverseasWinner = 29
+refusal_number Refusal.AboveWinnersCash = 30
+
+-- "14 Measure match, W, Q, M, S, F, A": the values of a Measure, in that order
+abbrev pub sample : (w q m s f a : ℕ) → Sample
+sample w q m s f a = record { weight = w; moisture = m; quality = record { heat = q; sulphur = s; volatiles = f; ash = a } }
+
 -- "Calls, by number"; "Pay (call 13)", "Hand over (call 17)"; "Call 18 names match, winner and proceeds"
 abbrev pub call_number : Call → ℕ
 call_number (Call.Join residence fitness) = 1
@@ -44,7 +81,7 @@ call_number (Call.Take buyer seller) = 10
 call_number (Call.Day p) = 11
 call_number Call.Close = 12
 call_number (Call.Pay j) = 13
-call_number (Call.Measure j w q m s f a) = 14
+call_number (Call.Measure j x) = 14
 call_number (Call.Invoice j) = 15
 call_number (Call.Terminate j party) = 16
 call_number (Call.HandOver j) = 17

@@ -1,7 +1,6 @@
 -- Going through numbers: turns, searches, counts, sums and lists over the n numbers from i on. Assumes nothing.
-use Rattle.std.specs.Prelude.{Bool, true, false, List, [], ◌∷◌, ℕ, zero, suc, ◌+◌, ℤ, pos, ◌+ℤ◌}
+use Rattle.std.specs.Prelude.{Bool, true, false, List, [], ◌∷◌, ℕ, zero, suc, ◌+◌, ℤ, pos, ◌+ℤ◌, Option, Some, None}
 use Rattle.coal.specs.Choice.{pick}
-use Rattle.book.specs.Types.{Found}
 
 -- n turns from i on, each a function of the number and the state
 unfoldable pub iter : {S : Type 0} → ℕ → ℕ → (ℕ → S → S) → S → S
@@ -9,9 +8,9 @@ iter zero i f s = s
 iter (suc n) i f s = iter n (i + 1) f (f i s)
 
 -- the lowest of the n numbers from i on at which p holds
-unfoldable pub lowest : ℕ → ℕ → (ℕ → Bool) → Found
-lowest zero i p = Found.Nothing
-lowest (suc n) i p = pick (p i) (Found.At i) (lowest n (i + 1) p)
+unfoldable pub lowest : ℕ → ℕ → (ℕ → Bool) → Option ℕ
+lowest zero i p = None
+lowest (suc n) i p = pick (p i) (Some i) (lowest n (i + 1) p)
 
 abbrev pub one_if : Bool → ℕ
 one_if true = 1

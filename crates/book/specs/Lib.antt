@@ -1,3 +1,4 @@
+pub mod Outcomes
 pub mod Types
 pub mod Codes
 pub mod Counting

@@ -1,6 +1,6 @@
 -- Calls 7 to 10: Declare, Offer, Retract, Take. Assumes nothing.
-use Rattle.std.specs.Prelude.{not, ◌&&◌, ℕ, ltb, leb, eqb}
-use Rattle.book.specs.Types.{Heat, Offer, Book, Outcome}
+use Rattle.std.specs.Prelude.{not, ◌&&◌, ℕ, ltb, leb, eqb, Some, None}
+use Rattle.book.specs.Types.{Book, Outcome}
 use Rattle.book.specs.Rows.{with_heat, with_offer, long_units, short_units, heat_missing, offer_missing, offer_units, any_class}
 use Rattle.book.specs.Tables.{account_at, put_account, free_receipts}
 use Rattle.book.specs.Answers.{refuse_if, accept}
@@ -13,7 +13,7 @@ declare b k h =
     (refuse_if (leb b.account_count k) 6 b
     (refuse_if (ltb h 4_300) 8 b
     (refuse_if (ltb 10_000 h) 8 b
-    (accept 0 (put_account b k (with_heat (account_at b k) (Heat.Declared h)))))))
+    (accept 0 (put_account b k (with_heat (account_at b k) (Some h)))))))
 
 -- "8 Offer seller, units."
 unfoldable pub offer : Book → ℕ → ℕ → Outcome
@@ -26,11 +26,11 @@ offer b seller u =
     (refuse_if (ltb (short_units (account_at b seller)) u) 14 b
     (refuse_if (not b.board && ltb (free_receipts b any_class seller) u) 15 b
     (refuse_if (b.board && heat_missing (account_at b seller).heat) 19 b
-    (accept 0 (put_account b seller (with_offer (account_at b seller) (Offer.Units u)))))))))))
+    (accept 0 (put_account b seller (with_offer (account_at b seller) (Some u)))))))))))
 
 -- the offer of account k ends
 abbrev pub end_offer : Book → ℕ → Book
-end_offer b k = put_account b k (with_offer (account_at b k) Offer.Missing)
+end_offer b k = put_account b k (with_offer (account_at b k) None)
 
 -- "9 Retract seller."
 unfoldable pub retract : Book → ℕ → Outcome

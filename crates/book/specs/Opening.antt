@@ -1,9 +1,10 @@
 -- The opening of a book, and call 11, Day. Assumes nothing.
-use Rattle.std.specs.Prelude.{Bool, true, false, ℕ, ◌+◌, ltb, leb, eqb, replicate}
-use Rattle.book.specs.Types.{Book, Outcome}
+use Rattle.std.specs.Prelude.{Bool, true, false, ℕ, ◌+◌, ltb, leb, eqb, replicate, Result, Ok, Err}
+use Rattle.book.specs.Types.{Refusal, Book, Outcome}
+use Rattle.book.specs.Codes.{refusal_number}
 use Rattle.book.specs.Rows.{blank_account, blank_receipt, blank_match}
 use Rattle.book.specs.Tables.{with_day}
-use Rattle.book.specs.Answers.{refuse_if, accept}
+use Rattle.book.specs.Answers.{refuse, refuse_if, accept}
 
 -- "A fresh book": "Day is 0, market open, fund 0, deposits accepted 0, all else empty."
 abbrev pub fresh : Bool → ℕ → ℕ → ℕ → Book
@@ -12,6 +13,11 @@ fresh board t r p = record { board = board; tonnes = t; rate = r; price = p; day
 -- "a refused opening makes no book; where code must hand a value back beside it, that is the book of `0 0 1 0 1`"
 abbrev pub no_book : Book
 no_book = fresh false 1 0 1
+
+-- the outcome that the result of an opening is
+abbrev pub opened : Result Book Refusal → Outcome
+opened (Ok b) = accept 0 b
+opened (Err e) = refuse (refusal_number e) no_book
 
 -- "kind (0 receipts, 1 board), T tonnes per unit 1..20,000, default rate R 0..100 percent, price 1..1,000,000 fen/t"
 unfoldable pub opening : ℕ → ℕ → ℕ → ℕ → Outcome

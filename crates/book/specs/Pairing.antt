@@ -1,7 +1,7 @@
 -- Pairing: a buyer's and a seller's units become a match. Assumes nothing.
-use Rattle.std.specs.Prelude.{Bool, ℕ, ◌+◌, ◌-◌, eqb, get_or, set}
+use Rattle.std.specs.Prelude.{Bool, List, ℕ, ◌+◌, ◌-◌, eqb, get_or, set}
 use Rattle.coal.specs.Choice.{pick}
-use Rattle.book.specs.Types.{Stage, Match, Book, Freezing}
+use Rattle.book.specs.Types.{Stage, Receipt, Match, Book}
 use Rattle.book.specs.Counting.{iter}
 use Rattle.book.specs.Rows.{blank_receipt, units_off, frozen_for}
 use Rattle.book.specs.Tables.{account_at, put_account, add_match, with_receipts, free_at}
@@ -13,6 +13,11 @@ take_units b k u = put_account b k (units_off (account_at b k) u)
 -- a match has "buyer, seller, units, price of its day, due day, seller's declared heat at pairing or missing, money held, and a stage"
 abbrev pub new_match : Book → ℕ → ℕ → ℕ → ℕ → Match
 new_match b buyer seller u days = record { held = 0; price = b.price; units = u; due = b.day + days; heat = (account_at b seller).heat; buyer = buyer; seller = seller; stage = Stage.Paired }
+
+-- a receipt table, and how many receipts are still to be frozen in it
+pub record Freezing : Type 0 where
+  pub receipts : List Receipt
+  pub left : ℕ
 
 -- receipt i of a table is frozen for match j if it is free, the seller's and of the class meant, and one is still to be frozen
 unfoldable pub freeze_turn : Bool → ℕ → ℕ → ℕ → Freezing → Freezing

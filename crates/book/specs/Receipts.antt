@@ -1,13 +1,17 @@
 -- Calls 5 and 6: Lodge, Strike. Assumes nothing.
-use Rattle.std.specs.Prelude.{not, ℕ, ltb, leb, eqb}
+use Rattle.std.specs.Prelude.{Bool, not, ℕ, ltb, leb, eqb}
 use Rattle.book.specs.Types.{ReceiptState, Receipt, Book, Outcome}
 use Rattle.book.specs.Rows.{with_state, is_struck, is_frozen}
 use Rattle.book.specs.Tables.{receipt_at, add_receipt, put_receipt}
 use Rattle.book.specs.Answers.{refuse_if, accept}
 
--- "owner, class (0 ordinary, 1 bonded), state (0 free, ..)"
+-- "owner, class .., state (0 free, ..)"
+abbrev pub lodged_receipt : ℕ → Bool → Receipt
+lodged_receipt owner bonded = record { owner = owner; bonded = bonded; state = ReceiptState.Free }
+
+-- "class (0 ordinary, 1 bonded)"
 abbrev pub new_receipt : ℕ → ℕ → Receipt
-new_receipt owner class = record { owner = owner; bonded = eqb class 1; state = ReceiptState.Free }
+new_receipt owner class = lodged_receipt owner (eqb class 1)
 
 -- "5 Lodge owner, class; carries the receipt number."
 unfoldable pub lodge : Book → ℕ → ℕ → Outcome

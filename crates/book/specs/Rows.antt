@@ -1,7 +1,7 @@
 -- One account, one receipt, one match: the row of an unused cell, a row with one thing changed, and what a row is asked. Assumes nothing.
-use Rattle.std.specs.Prelude.{Bool, true, false, not, ◌&&◌, ◌||◌, List, [], ◌∷◌, ℕ, ◌+◌, ◌-◌, ltb, eqb, ℤ, pos, ◌+ℤ◌, ◌-ℤ◌}
+use Rattle.std.specs.Prelude.{Bool, true, false, not, ◌&&◌, ◌||◌, List, [], ◌∷◌, ℕ, ◌+◌, ◌-◌, ltb, eqb, ℤ, pos, ◌+ℤ◌, ◌-ℤ◌, Option, Some, None}
 use Rattle.coal.specs.Choice.{pick}
-use Rattle.book.specs.Types.{Side, Heat, Offer, ReceiptState, Stage, Lot, Lots, Account, Receipt, Match}
+use Rattle.book.specs.Types.{Side, ReceiptState, Stage, Lot, Lots, Account, Receipt, Match}
 
 -- ---- an unused cell: zeros and first cases, which is also what a read past a table's end gives
 
@@ -12,13 +12,13 @@ abbrev pub no_lots : Lots
 no_lots = record { oldest = no_lot; second = no_lot; third = no_lot; newest = no_lot }
 
 abbrev pub blank_account : Account
-blank_account = record { cash = pos 0; units = 0; lots = no_lots; heat = Heat.Missing; offer = Offer.Missing; side = Side.Flat; overseas = false; fit = false }
+blank_account = record { cash = pos 0; units = 0; lots = no_lots; heat = None; offer = None; side = Side.Flat; overseas = false; fit = false }
 
 abbrev pub blank_receipt : Receipt
 blank_receipt = record { owner = 0; bonded = false; state = ReceiptState.Free }
 
 abbrev pub blank_match : Match
-blank_match = record { held = 0; price = 0; units = 0; due = 0; heat = Heat.Missing; buyer = 0; seller = 0; stage = Stage.Paired }
+blank_match = record { held = 0; price = 0; units = 0; due = 0; heat = None; buyer = 0; seller = 0; stage = Stage.Paired }
 
 -- ---- an account
 
@@ -28,10 +28,10 @@ with_cash a z = record { cash = z; units = a.units; lots = a.lots; heat = a.heat
 abbrev pub with_position : Account → Side → ℕ → Lots → Account
 with_position a s u l = record { cash = a.cash; units = u; lots = l; heat = a.heat; offer = a.offer; side = s; overseas = a.overseas; fit = a.fit }
 
-abbrev pub with_heat : Account → Heat → Account
+abbrev pub with_heat : Account → Option ℕ → Account
 with_heat a h = record { cash = a.cash; units = a.units; lots = a.lots; heat = h; offer = a.offer; side = a.side; overseas = a.overseas; fit = a.fit }
 
-abbrev pub with_offer : Account → Offer → Account
+abbrev pub with_offer : Account → Option ℕ → Account
 with_offer a o = record { cash = a.cash; units = a.units; lots = a.lots; heat = a.heat; offer = o; side = a.side; overseas = a.overseas; fit = a.fit }
 
 -- "cash up by it"
@@ -88,6 +88,17 @@ is_short Side.Flat = false
 is_short Side.Long = false
 is_short Side.Short = true
 
+abbrev pub is_flat : Side → Bool
+is_flat Side.Flat = true
+is_flat Side.Long = false
+is_flat Side.Short = false
+
+-- whether a side is the one meant
+abbrev pub is_on : Side → Side → Bool
+is_on Side.Flat s = is_flat s
+is_on Side.Long s = is_long s
+is_on Side.Short s = is_short s
+
 -- the units that an account is long, and short: 0 on another side
 abbrev pub long_units : Account → ℕ
 long_units a = pick (is_long a.side) a.units 0
@@ -95,23 +106,23 @@ long_units a = pick (is_long a.side) a.units 0
 abbrev pub short_units : Account → ℕ
 short_units a = pick (is_short a.side) a.units 0
 
-abbrev pub heat_missing : Heat → Bool
-heat_missing Heat.Missing = true
-heat_missing (Heat.Declared h) = false
+abbrev pub heat_missing : Option ℕ → Bool
+heat_missing None = true
+heat_missing (Some h) = false
 
 -- the heat, where it is declared
-abbrev pub heat_value : Heat → ℕ
-heat_value Heat.Missing = 0
-heat_value (Heat.Declared h) = h
+abbrev pub heat_value : Option ℕ → ℕ
+heat_value None = 0
+heat_value (Some h) = h
 
-abbrev pub offer_missing : Offer → Bool
-offer_missing Offer.Missing = true
-offer_missing (Offer.Units u) = false
+abbrev pub offer_missing : Option ℕ → Bool
+offer_missing None = true
+offer_missing (Some u) = false
 
 -- the units offered, where an offer stands
-abbrev pub offer_units : Offer → ℕ
-offer_units Offer.Missing = 0
-offer_units (Offer.Units u) = u
+abbrev pub offer_units : Option ℕ → ℕ
+offer_units None = 0
+offer_units (Some u) = u
 
 -- ---- a receipt
 

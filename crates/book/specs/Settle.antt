@@ -1,7 +1,7 @@
 -- Settle, in the words of document 01. It is no call of the book: it stands here for what Pay and Hand over are to agree with. Assumes nothing.
-use Rattle.std.specs.Prelude.{not, ℕ, ◌-◌, ltb, leb}
+use Rattle.std.specs.Prelude.{not, ℕ, ◌-◌, ltb, leb, Option, Some, None}
 use Rattle.coal.specs.Choice.{pick}
-use Rattle.book.specs.Types.{Stage, Match, Book, Outcome, Fault}
+use Rattle.book.specs.Types.{Stage, Match, Book, Outcome}
 use Rattle.book.specs.Rows.{is_paired}
 use Rattle.book.specs.Tables.{match_at, pay, charge}
 use Rattle.book.specs.Answers.{refuse_if, accept}
@@ -17,11 +17,11 @@ unfoldable pub settle_board : Book → ℕ → Match → ℕ → Book
 settle_board b j m v = set_stage (charge b m.buyer v) j v Stage.Prepaid
 
 -- by the buyer's fault and the seller's
-unfoldable pub settled : Book → ℕ → Match → Fault → Fault → Book
-settled b j m Fault.Faultless Fault.Faultless = pick b.board (settle_board b j m (value b m)) (settle_receipts b j m (value b m))
-settled b j m (Fault.Percent x) Fault.Faultless = fault_ended b j m (Fault.Percent x) Fault.Faultless
-settled b j m Fault.Faultless (Fault.Percent y) = fault_ended b j m Fault.Faultless (Fault.Percent y)
-settled b j m (Fault.Percent x) (Fault.Percent y) = fault_ended b j m (Fault.Percent x) (Fault.Percent y)
+unfoldable pub settled : Book → ℕ → Match → Option ℕ → Option ℕ → Book
+settled b j m None None = pick b.board (settle_board b j m (value b m)) (settle_receipts b j m (value b m))
+settled b j m (Some x) None = fault_ended b j m (Some x) None
+settled b j m None (Some y) = fault_ended b j m None (Some y)
+settled b j m (Some x) (Some y) = fault_ended b j m (Some x) (Some y)
 
 -- "13 Settle match." "Settle (paired)."
 unfoldable pub settle : Book → ℕ → Outcome

@@ -1,10 +1,10 @@
 -- Calls 13 to 18: Pay, Measure, Invoice, Terminate, Hand over, Auction. Assumes nothing.
-use Rattle.std.specs.Prelude.{Bool, not, ◌&&◌, List, ℕ, ◌+◌, ◌-◌, ◌*◌, ltb, leb, eqb, pos, get_or, set}
+use Rattle.std.specs.Prelude.{Bool, not, ◌&&◌, List, ℕ, ◌+◌, ◌-◌, ◌*◌, ltb, leb, eqb, pos, get_or, set, Option, Some, None}
 use Rattle.std.specs.Int.Signed.{lt_z}
 use Rattle.coal.specs.Choice.{pick}
 use Rattle.coal.specs.declared.Weighed.{Weighed}
 use Rattle.coal.specs.Coal.{percent_down, coal_price, coal_weight, amount}
-use Rattle.book.specs.Types.{Stage, Receipt, Match, Book, Outcome, Fault}
+use Rattle.book.specs.Types.{Stage, Receipt, Match, Book, Outcome}
 use Rattle.book.specs.Counting.{iter}
 use Rattle.book.specs.Rows.{blank_receipt, heat_missing, heat_value, released, passed, with_held, is_paired, is_prepaid, is_held, is_funded, is_awaiting}
 use Rattle.book.specs.Tables.{account_at, match_at, put_match, with_receipts, with_fund, pay, charge, frozen_receipts, ordinary_receipts}
@@ -17,29 +17,29 @@ value b m = m.units * m.price * b.tonnes
 -- ---- penalties
 
 -- "Seller's fault: unfit (10%), else receipts book with fewer frozen than units, or board book with heat missing (R%)."
-unfoldable pub seller_fault : Book → ℕ → Fault
+unfoldable pub seller_fault : Book → ℕ → Option ℕ
 seller_fault b j =
-    pick (not (account_at b (match_at b j).seller).fit) (Fault.Percent 10)
-    (pick (pick b.board (heat_missing (match_at b j).heat) (ltb (frozen_receipts b j) (match_at b j).units)) (Fault.Percent b.rate)
-    Fault.Faultless)
+    pick (not (account_at b (match_at b j).seller).fit) (Some 10)
+    (pick (pick b.board (heat_missing (match_at b j).heat) (ltb (frozen_receipts b j) (match_at b j).units)) (Some b.rate)
+    None)
 
 -- "Buyer's fault: unfit (10%), else cash below V (R%)."
-unfoldable pub buyer_fault : Book → ℕ → Fault
+unfoldable pub buyer_fault : Book → ℕ → Option ℕ
 buyer_fault b j =
-    pick (not (account_at b (match_at b j).buyer).fit) (Fault.Percent 10)
-    (pick (lt_z (account_at b (match_at b j).buyer).cash (pos (value b (match_at b j)))) (Fault.Percent b.rate)
-    Fault.Faultless)
+    pick (not (account_at b (match_at b j).buyer).fit) (Some 10)
+    (pick (lt_z (account_at b (match_at b j).buyer).cash (pos (value b (match_at b j)))) (Some b.rate)
+    None)
 
 -- "A penalty is that percent of V, down."
 unfoldable pub penalty : Book → Match → ℕ → ℕ
 penalty b m x = percent_down x (value b m)
 
 -- "One at fault pays the other; two at fault each pay the fund."
-unfoldable pub punish : Book → Match → Fault → Fault → Book
-punish b m Fault.Faultless Fault.Faultless = b
-punish b m (Fault.Percent x) Fault.Faultless = pay (charge b m.buyer (penalty b m x)) m.seller (penalty b m x)
-punish b m Fault.Faultless (Fault.Percent y) = pay (charge b m.seller (penalty b m y)) m.buyer (penalty b m y)
-punish b m (Fault.Percent x) (Fault.Percent y) =
+unfoldable pub punish : Book → Match → Option ℕ → Option ℕ → Book
+punish b m None None = b
+punish b m (Some x) None = pay (charge b m.buyer (penalty b m x)) m.seller (penalty b m x)
+punish b m None (Some y) = pay (charge b m.seller (penalty b m y)) m.buyer (penalty b m y)
+punish b m (Some x) (Some y) =
     with_fund (charge (charge b m.buyer (penalty b m x)) m.seller (penalty b m y)) (b.fund + (penalty b m x + penalty b m y))
 
 -- ---- receipts of a match
@@ -84,15 +84,15 @@ unfoldable pub paid_stage : Book → ℕ → Match → Stage
 paid_stage b j m = pick b.board Stage.Prepaid (pick (to_auction b j m) Stage.Awaiting Stage.Funded)
 
 -- "ends the match on a fault": "Then the match is ended and its receipts are free again."
-unfoldable pub fault_ended : Book → ℕ → Match → Fault → Fault → Book
+unfoldable pub fault_ended : Book → ℕ → Match → Option ℕ → Option ℕ → Book
 fault_ended b j m x y = free_again (set_stage (punish b m x y) j 0 Stage.Ended) j
 
 -- by the buyer's fault and the seller's
-unfoldable pub paid : Book → ℕ → Match → Fault → Fault → Book
-paid b j m Fault.Faultless Fault.Faultless = into_held b j m (value b m) (paid_stage b j m)
-paid b j m (Fault.Percent x) Fault.Faultless = fault_ended b j m (Fault.Percent x) Fault.Faultless
-paid b j m Fault.Faultless (Fault.Percent y) = fault_ended b j m Fault.Faultless (Fault.Percent y)
-paid b j m (Fault.Percent x) (Fault.Percent y) = fault_ended b j m (Fault.Percent x) (Fault.Percent y)
+unfoldable pub paid : Book → ℕ → Match → Option ℕ → Option ℕ → Book
+paid b j m None None = into_held b j m (value b m) (paid_stage b j m)
+paid b j m (Some x) None = fault_ended b j m (Some x) None
+paid b j m None (Some y) = fault_ended b j m None (Some y)
+paid b j m (Some x) (Some y) = fault_ended b j m (Some x) (Some y)
 
 -- "Pay (call 13) judges faults as Settle did, ends the match on a fault, and otherwise moves V into money held."
 unfoldable pub pay_match : Book → ℕ → Outcome
@@ -138,8 +138,8 @@ invoice b j =
     (accept 0 (set_stage (pay b (match_at b j).seller (match_at b j).held) j 0 Stage.Closed)))
 
 -- "party (0 buyer, 1 seller, 2 both)": the fault that a party has where it is named
-abbrev pub blamed : Book → Bool → Fault
-blamed b named = pick named (Fault.Percent b.rate) Fault.Faultless
+abbrev pub blamed : Book → Bool → Option ℕ
+blamed b named = pick named (Some b.rate) None
 
 -- "buyer gets V back; party or parties at fault pay R% of V as above; ended."
 unfoldable pub terminated : Book → ℕ → Match → ℕ → Book

@@ -1,11 +1,11 @@
 -- What the code of Close asks of a book, and that a book after pairings still has it, with no fewer matches. Assumes nothing.
 use Rattle.std.specs.Prelude.{◌≡◌, refl, Bool, List, [], ◌∷◌, ℕ, ◌+◌, ◌≤◌}
 use Rattle.std.proofs.Common.{◌∙◌, arith}
-use Rattle.book.specs.declared.Book.{Book}
+use Rattle.book.specs.declared.tables.Book.{Book}
 use Rattle.book.specs.Pairing.{freeze, pair}
 use Rattle.book.specs.Closing.{Pair, pair_all}
 use Rattle.book.specs.Lists.{Reached}
-use Rattle.rows.specs.Needs.{calls}
+use Rattle.reached.specs.Needs.{calls}
 use Rattle.book.proofs.laws.Counting.{by_pick}
 
 -- what a pairing asks of a book, but for room

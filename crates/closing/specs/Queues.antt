@@ -3,7 +3,7 @@ use Rattle.std.specs.Prelude.{◌≡◌, List, [], ◌∷◌, map, ℕ, suc, ◌
 use Rattle.std.proofs.Common.{sym, ap, ◌∙◌, add-one, arith, length-take, length-set, drop_of_length-le, drop-set-lt}
 use Rattle.std.proofs.lemmas.List.{length-map, set-get_or}
 use Rattle.std.proofs.Math.Seq.{slice, slice-cons, length-slice, take-set-lt}
-use Rattle.book.specs.declared.Listed.{Listed}
+use Rattle.book.specs.declared.tables.Listed.{Listed}
 use Rattle.book.proofs.laws.Walking.{All}
 use Rattle.closing.specs.declared.Listing.{Listing}
 

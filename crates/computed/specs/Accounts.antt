@@ -1,6 +1,6 @@
 -- Join, Deposit, Withdraw, Trade and Day, with their refusals from both sides: 1, 5 to 11. Assumes nothing.
 use Rattle.std.specs.Prelude.{◌≡◌, refl, List, [], ◌∷◌, pos}
-use Rattle.book.specs.declared.Call.{Call}
+use Rattle.book.specs.declared.calls.Call.{Call}
 use Rattle.computed.specs.Script.{Line, line, ok, no, play, account, matched, fund, ledger_after, sums_after}
 
 abbrev script : List Line

@@ -1,7 +1,7 @@
 -- Auction: a match with receipts of either class sold, one for which nobody bid, and the seller as the winner; matches that don't go to auction beside them,
 -- and refusals 6, 8, 21, 22, 29 and 30. Assumes nothing.
 use Rattle.std.specs.Prelude.{◌≡◌, refl, List, [], ◌∷◌, ◌++◌, pos}
-use Rattle.book.specs.declared.Call.{Call}
+use Rattle.book.specs.declared.calls.Call.{Call}
 use Rattle.computed.specs.Script.{Line, line, ok, no, owes, play, account, receipt, matched, fund, ledger_after, sums_after}
 
 -- ---- sold, and nobody bid

@@ -1,6 +1,6 @@
 -- Pay in a board book with every pair of faults; Hand over, which finds no funded match there; Terminate by each party, and with a party that is none. Assumes nothing.
 use Rattle.std.specs.Prelude.{◌≡◌, refl, List, [], ◌∷◌, ◌++◌, pos}
-use Rattle.book.specs.declared.Call.{Call}
+use Rattle.book.specs.declared.calls.Call.{Call}
 use Rattle.computed.specs.Script.{Line, line, ok, no, play, account, matched, ledger_after, sums_after}
 use Rattle.computed.specs.Faults.{joined, paid, punished, ended, owed}
 

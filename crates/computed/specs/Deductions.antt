@@ -1,7 +1,8 @@
 -- "a single 80%, half up, if either is outside": Measures with 1,000 kg, so that the amount is the price: F and A at each limit (matches 0 and 1), each alone outside (2 to 5) and both (6 to 8), where 80% is taken once;
 -- "P, heat and sulphur steps feed it unchanged": 502 fen by sulphur (9), 80% of that with both outside (10), and with both outside after 500 for heat and the steps for sulphur (11). Assumes nothing.
 use Rattle.std.specs.Prelude.{◌≡◌, refl, List, [], ◌∷◌, pos}
-use Rattle.book.specs.declared.Call.{Call}
+use Rattle.book.specs.Codes.{sample}
+use Rattle.book.specs.declared.calls.Call.{Call}
 use Rattle.computed.specs.Script.{Line, line, ok, play, account, matched, fund, ledger_after, sums_after}
 
 abbrev script : List Line
@@ -53,18 +54,18 @@ script =
     ∷ line (Call.Pay 9) (ok 0)
     ∷ line (Call.Pay 10) (ok 0)
     ∷ line (Call.Pay 11) (ok 0)
-    ∷ line (Call.Measure 0 1_000 5_500 0 0 3_000 3_000) (ok 0)
-    ∷ line (Call.Measure 1 1_000 5_500 0 0 4_200 3_000) (ok 0)
-    ∷ line (Call.Measure 2 1_000 5_500 0 0 2_999 3_000) (ok 0)
-    ∷ line (Call.Measure 3 1_000 5_500 0 0 4_201 3_000) (ok 0)
-    ∷ line (Call.Measure 4 1_000 5_500 0 0 3_000 3_001) (ok 0)
-    ∷ line (Call.Measure 5 1_000 5_500 0 0 4_200 3_001) (ok 0)
-    ∷ line (Call.Measure 6 1_000 5_500 0 0 2_999 3_001) (ok 0)
-    ∷ line (Call.Measure 7 1_000 5_500 0 0 4_201 3_001) (ok 0)
-    ∷ line (Call.Measure 8 1_000 5_500 0 0 2_999 3_001) (ok 0)
-    ∷ line (Call.Measure 9 1_000 5_500 0 251 3_000 3_000) (ok 0)
-    ∷ line (Call.Measure 10 1_000 5_500 0 251 2_999 3_001) (ok 0)
-    ∷ line (Call.Measure 11 1_000 4_699 0 151 4_201 3_001) (ok 0)
+    ∷ line (Call.Measure 0 (sample 1_000 5_500 0 0 3_000 3_000)) (ok 0)
+    ∷ line (Call.Measure 1 (sample 1_000 5_500 0 0 4_200 3_000)) (ok 0)
+    ∷ line (Call.Measure 2 (sample 1_000 5_500 0 0 2_999 3_000)) (ok 0)
+    ∷ line (Call.Measure 3 (sample 1_000 5_500 0 0 4_201 3_000)) (ok 0)
+    ∷ line (Call.Measure 4 (sample 1_000 5_500 0 0 3_000 3_001)) (ok 0)
+    ∷ line (Call.Measure 5 (sample 1_000 5_500 0 0 4_200 3_001)) (ok 0)
+    ∷ line (Call.Measure 6 (sample 1_000 5_500 0 0 2_999 3_001)) (ok 0)
+    ∷ line (Call.Measure 7 (sample 1_000 5_500 0 0 4_201 3_001)) (ok 0)
+    ∷ line (Call.Measure 8 (sample 1_000 5_500 0 0 2_999 3_001)) (ok 0)
+    ∷ line (Call.Measure 9 (sample 1_000 5_500 0 251 3_000 3_000)) (ok 0)
+    ∷ line (Call.Measure 10 (sample 1_000 5_500 0 251 2_999 3_001)) (ok 0)
+    ∷ line (Call.Measure 11 (sample 1_000 4_699 0 151 4_201 3_001)) (ok 0)
     ∷ []
 
 answers : play 1 1 10 1_001 script ≡ script

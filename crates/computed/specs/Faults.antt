@@ -1,6 +1,6 @@
 -- Pay in a receipts book with every pair of faults: no fault, unfit, default, of the buyer and of the seller. Assumes nothing.
 use Rattle.std.specs.Prelude.{◌≡◌, refl, List, [], ◌∷◌, ◌++◌, ℕ, ℤ, pos}
-use Rattle.book.specs.declared.Call.{Call}
+use Rattle.book.specs.declared.calls.Call.{Call}
 use Rattle.computed.specs.Script.{Line, line, ok, no, each, Row, play, owes, account, receipt, matched, fund, ledger_after, sums_after}
 
 -- ---- what BoardFaults has too

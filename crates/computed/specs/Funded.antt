@@ -1,7 +1,7 @@
 -- Between Pay and Hand over: V is held, the receipts are frozen and the seller's, and every other call on the match is refused; Hand over asks no day and
 -- pays 80%, down, of the price of the match's day. Assumes nothing.
 use Rattle.std.specs.Prelude.{◌≡◌, refl, List, [], ◌∷◌, ◌++◌, pos}
-use Rattle.book.specs.declared.Call.{Call}
+use Rattle.book.specs.declared.calls.Call.{Call}
 use Rattle.computed.specs.Script.{Line, line, ok, no, play, account, receipt, matched, fund, ledger_after, sums_after}
 
 -- both matches are paid

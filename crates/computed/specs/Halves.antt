@@ -1,7 +1,8 @@
 -- "step 2 of the price rounds an exact half to the even fen": Measures at an exact half in each of its bands, with 1,000 kg, so that the amount is the price; and "All other roundings keep their rule.": an
 -- exact half of an amount (match 2), of a weight by moisture (match 3) and of the 50% for sulphur (match 8). Assumes nothing.
 use Rattle.std.specs.Prelude.{◌≡◌, refl, List, [], ◌∷◌, pos}
-use Rattle.book.specs.declared.Call.{Call}
+use Rattle.book.specs.Codes.{sample}
+use Rattle.book.specs.declared.calls.Call.{Call}
 use Rattle.computed.specs.Script.{Line, line, ok, play, account, matched, fund, ledger_after, sums_after}
 
 abbrev script : List Line
@@ -55,17 +56,17 @@ script =
     ∷ line (Call.Pay 8) (ok 0)
     ∷ line (Call.Pay 9) (ok 0)
     ∷ line (Call.Pay 10) (ok 0)
-    ∷ line (Call.Measure 0 1_000 5_301 0 0 3_000 3_000) (ok 0)
-    ∷ line (Call.Measure 1 1_000 5_303 0 0 3_000 3_000) (ok 0)
-    ∷ line (Call.Measure 2 100 5_330 0 0 3_000 3_000) (ok 0)
-    ∷ line (Call.Measure 3 1_500 5_300 2_505 0 3_000 3_000) (ok 0)
-    ∷ line (Call.Measure 4 1_000 4_875 0 0 3_000 3_000) (ok 0)
-    ∷ line (Call.Measure 5 1_000 4_875 0 0 3_000 3_000) (ok 0)
-    ∷ line (Call.Measure 6 1_000 4_500 0 0 3_000 3_000) (ok 0)
-    ∷ line (Call.Measure 7 1_000 4_500 0 0 3_000 3_000) (ok 0)
-    ∷ line (Call.Measure 8 1_000 4_501 0 251 3_000 3_000) (ok 0)
-    ∷ line (Call.Measure 9 1_000 4_000 0 0 3_000 3_000) (ok 0)
-    ∷ line (Call.Measure 10 1_000 4_000 0 0 3_000 3_000) (ok 0)
+    ∷ line (Call.Measure 0 (sample 1_000 5_301 0 0 3_000 3_000)) (ok 0)
+    ∷ line (Call.Measure 1 (sample 1_000 5_303 0 0 3_000 3_000)) (ok 0)
+    ∷ line (Call.Measure 2 (sample 100 5_330 0 0 3_000 3_000)) (ok 0)
+    ∷ line (Call.Measure 3 (sample 1_500 5_300 2_505 0 3_000 3_000)) (ok 0)
+    ∷ line (Call.Measure 4 (sample 1_000 4_875 0 0 3_000 3_000)) (ok 0)
+    ∷ line (Call.Measure 5 (sample 1_000 4_875 0 0 3_000 3_000)) (ok 0)
+    ∷ line (Call.Measure 6 (sample 1_000 4_500 0 0 3_000 3_000)) (ok 0)
+    ∷ line (Call.Measure 7 (sample 1_000 4_500 0 0 3_000 3_000)) (ok 0)
+    ∷ line (Call.Measure 8 (sample 1_000 4_501 0 251 3_000 3_000)) (ok 0)
+    ∷ line (Call.Measure 9 (sample 1_000 4_000 0 0 3_000 3_000)) (ok 0)
+    ∷ line (Call.Measure 10 (sample 1_000 4_000 0 0 3_000 3_000)) (ok 0)
     ∷ []
 
 answers : play 1 1 10 2_750 script ≡ script

@@ -1,6 +1,6 @@
 -- A match keeps the heat that its seller had declared at pairing: a later Declare cures nothing, and cash equal to V is no fault. Assumes nothing.
 use Rattle.std.specs.Prelude.{◌≡◌, refl, List, [], ◌∷◌, pos}
-use Rattle.book.specs.declared.Call.{Call}
+use Rattle.book.specs.declared.calls.Call.{Call}
 use Rattle.computed.specs.Script.{Line, line, ok, no, play, owes, account, matched, fund, ledger_after, sums_after}
 
 abbrev script : List Line

@@ -1,8 +1,8 @@
 -- Lots: a trade on the newest lot's day adds to it, a fifth opening day is refused, Take uses up the oldest, and the first pass goes by lots, whose
 -- neighbours of one pair are one match. Assumes nothing.
 use Rattle.std.specs.Prelude.{◌≡◌, refl, List, [], ◌∷◌, ◌++◌, map, ℕ, pos}
-use Rattle.book.specs.declared.Call.{Call}
-use Rattle.book.specs.declared.Lot.{Lot}
+use Rattle.book.specs.declared.calls.Call.{Call}
+use Rattle.book.specs.declared.accounts.Lot.{Lot}
 use Rattle.book.specs.Rows.{lots_of}
 use Rattle.book.specs.Tables.{account_at}
 use Rattle.book.specs.Calls.{step}

@@ -1,6 +1,6 @@
 -- Offer, Retract and Take in a receipts book, with refusals 6 to 8, 12 to 15: an offer reserves no receipt. Assumes nothing.
 use Rattle.std.specs.Prelude.{◌≡◌, refl, List, [], ◌∷◌, pos}
-use Rattle.book.specs.declared.Call.{Call}
+use Rattle.book.specs.declared.calls.Call.{Call}
 use Rattle.computed.specs.Script.{Line, line, ok, no, play, account, receipt, matched, fund, ledger_after, sums_after}
 
 abbrev script : List Line

@@ -1,6 +1,6 @@
 -- The first pass takes lots of overseas buyers by day, then account number, and gives bonded receipts only. Assumes nothing.
 use Rattle.std.specs.Prelude.{◌≡◌, refl, List, [], ◌∷◌, ◌++◌, pos}
-use Rattle.book.specs.declared.Call.{Call}
+use Rattle.book.specs.declared.calls.Call.{Call}
 use Rattle.computed.specs.Script.{Line, line, ok, no, play, account, receipt, matched, fund, ledger_after, sums_after, given_by_close}
 
 -- what comes before Close

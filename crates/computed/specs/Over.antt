@@ -1,6 +1,7 @@
 -- "Measure's accepted answer carries the second": the kilograms over on both sides of D + 500,000, where moisture takes three quarters, at the most W, and where D is of two units. Assumes nothing.
 use Rattle.std.specs.Prelude.{◌≡◌, refl, List, [], ◌∷◌, pos}
-use Rattle.book.specs.declared.Call.{Call}
+use Rattle.book.specs.Codes.{sample}
+use Rattle.book.specs.declared.calls.Call.{Call}
 use Rattle.computed.specs.Script.{Line, line, ok, no, play, account, matched, fund, ledger_after, sums_after}
 
 abbrev script : List Line
@@ -30,14 +31,14 @@ script =
     ∷ line (Call.Pay 3) (ok 0)
     ∷ line (Call.Pay 4) (ok 0)
     ∷ line (Call.Pay 5) (ok 0)
-    ∷ line (Call.Measure 0 20_000_001 5_300 2_500 80 3_000 3_000) (ok 0)
-    ∷ line (Call.Measure 1 20_500_000 5_300 2_500 80 3_000 3_000) (ok 0)
-    ∷ line (Call.Measure 2 20_500_001 5_300 2_500 80 3_000 3_000) (ok 1)
-    ∷ line (Call.Measure 3 20_500_001 5_300 10_000 80 3_000 3_000) (ok 1)
-    ∷ line (Call.Measure 4 40_000_000_001 5_300 2_504 80 3_000 3_000) (no 24)
-    ∷ line (Call.Measure 4 40_000_000_000 5_300 2_504 80 3_000 3_000) (ok 39_979_500_000)
-    ∷ line (Call.Measure 4 40_000_000_000 5_300 2_504 80 3_000 3_000) (no 22)
-    ∷ line (Call.Measure 5 40_500_001 5_300 2_505 80 3_000 3_000) (ok 1)
+    ∷ line (Call.Measure 0 (sample 20_000_001 5_300 2_500 80 3_000 3_000)) (ok 0)
+    ∷ line (Call.Measure 1 (sample 20_500_000 5_300 2_500 80 3_000 3_000)) (ok 0)
+    ∷ line (Call.Measure 2 (sample 20_500_001 5_300 2_500 80 3_000 3_000)) (ok 1)
+    ∷ line (Call.Measure 3 (sample 20_500_001 5_300 10_000 80 3_000 3_000)) (ok 1)
+    ∷ line (Call.Measure 4 (sample 40_000_000_001 5_300 2_504 80 3_000 3_000)) (no 24)
+    ∷ line (Call.Measure 4 (sample 40_000_000_000 5_300 2_504 80 3_000 3_000)) (ok 39_979_500_000)
+    ∷ line (Call.Measure 4 (sample 40_000_000_000 5_300 2_504 80 3_000 3_000)) (no 22)
+    ∷ line (Call.Measure 5 (sample 40_500_001 5_300 2_505 80 3_000 3_000)) (ok 1)
     ∷ []
 
 answers : play 1 20_000 10 80_000 script ≡ script

@@ -1,8 +1,8 @@
 -- The places of lots: a trade on the newest lot's day adds to it, one that would need a fifth opening day of the buyer or of the seller is refused,
 -- after 10, and Take frees a place once it has used up the oldest lot. Assumes nothing.
 use Rattle.std.specs.Prelude.{◌≡◌, refl, List, [], ◌∷◌, ℕ}
-use Rattle.book.specs.declared.Call.{Call}
-use Rattle.book.specs.declared.Lot.{Lot}
+use Rattle.book.specs.declared.calls.Call.{Call}
+use Rattle.book.specs.declared.accounts.Lot.{Lot}
 use Rattle.book.specs.Rows.{lots_of}
 use Rattle.book.specs.Tables.{account_at}
 use Rattle.book.specs.Lists.{after}

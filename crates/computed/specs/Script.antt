@@ -1,9 +1,9 @@
 -- A session as it is written in these files: an opening, calls each with its answer, and the ledger after them. Assumes nothing.
 use Rattle.std.specs.Prelude.{List, [], ◌∷◌, ◌++◌, map, ℕ, zero, suc, ◌+◌, ℤ, pos, neg_ℤ}
 use Rattle.coal.specs.Coal as coal
-use Rattle.book.specs.declared.Book.{Book}
-use Rattle.book.specs.declared.Answer.{Answer}
-use Rattle.book.specs.declared.Call.{Call}
+use Rattle.book.specs.declared.tables.Book.{Book}
+use Rattle.book.specs.declared.calls.Call.{Call}
+use Rattle.book.specs.Outcomes.{Answer}
 use Rattle.book.specs.Codes.{side_number, class_number, state_number, stage_number}
 use Rattle.book.specs.Counting as counting
 use Rattle.book.specs.Tables as tables

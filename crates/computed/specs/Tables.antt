@@ -1,7 +1,7 @@
 -- The limits of the opening, of the tables, of the day and of deposits, from both sides: refusals 1, 2, 3, 16, 20 and 25. Assumes nothing.
 use Rattle.std.specs.Prelude.{◌≡◌, refl, List, [], ◌∷◌, ◌++◌}
-use Rattle.book.specs.declared.Answer.{Answer}
-use Rattle.book.specs.declared.Call.{Call}
+use Rattle.book.specs.declared.calls.Call.{Call}
+use Rattle.book.specs.Outcomes.{Answer}
 use Rattle.book.specs.Opening.{opening}
 use Rattle.computed.specs.Script.{ok, no, times, rounds, then_answers}
 

@@ -1,6 +1,7 @@
 -- A board book: Offer and Take by declared heat, Terminate by the seller and by both, refusals 4, 19, 21 and 22. Assumes nothing.
 use Rattle.std.specs.Prelude.{◌≡◌, refl, List, [], ◌∷◌, pos}
-use Rattle.book.specs.declared.Call.{Call}
+use Rattle.book.specs.Codes.{sample}
+use Rattle.book.specs.declared.calls.Call.{Call}
 use Rattle.computed.specs.Script.{Line, line, ok, no, play, owes, account, matched, fund, ledger_after}
 
 abbrev script : List Line
@@ -34,8 +35,8 @@ script =
     ∷ line (Call.Terminate 0 1) (ok 0)
     ∷ line (Call.Deposit 1 15_000) (ok 0)
     ∷ line (Call.Invoice 0) (no 22)
-    ∷ line (Call.Measure 2 1 1 1 1 1 1) (no 21)
-    ∷ line (Call.Measure 0 1 1 1 1 1 1) (no 22)
+    ∷ line (Call.Measure 2 (sample 1 1 1 1 1 1)) (no 21)
+    ∷ line (Call.Measure 0 (sample 1 1 1 1 1 1)) (no 22)
     ∷ line (Call.Terminate 1 2) (ok 0)
     ∷ []
 

@@ -1,6 +1,6 @@
 -- Close in its three passes: bonded receipts to overseas buyers, equal units, what is left. Assumes nothing.
 use Rattle.std.specs.Prelude.{◌≡◌, refl, List, [], ◌∷◌, ◌++◌, pos}
-use Rattle.book.specs.declared.Call.{Call}
+use Rattle.book.specs.declared.calls.Call.{Call}
 use Rattle.computed.specs.Script.{Line, line, ok, no, play, owes, account, receipt, matched, fund, ledger_after, sums_after, given_by_close}
 
 -- what comes before Close

@@ -1,6 +1,7 @@
 -- Lodge and Strike, with refusals 4, 6, 8, 17 and 18. Assumes nothing.
 use Rattle.std.specs.Prelude.{◌≡◌, refl, List, [], ◌∷◌, pos}
-use Rattle.book.specs.declared.Call.{Call}
+use Rattle.book.specs.Codes.{sample}
+use Rattle.book.specs.declared.calls.Call.{Call}
 use Rattle.computed.specs.Script.{Line, line, ok, no, play, account, receipt, matched, fund, ledger_after}
 
 abbrev script : List Line
@@ -23,7 +24,7 @@ script =
     ∷ line (Call.Take 1 0) (ok 0)
     ∷ line (Call.Strike 0 1) (no 18)
     ∷ line (Call.Strike 1 1) (no 17)
-    ∷ line (Call.Measure 0 1 1 1 1 1 1) (no 4)
+    ∷ line (Call.Measure 0 (sample 1 1 1 1 1 1)) (no 4)
     ∷ line (Call.Terminate 0 0) (no 4)
     ∷ []
 

@@ -1,6 +1,6 @@
 -- The worked session of document 01, with document 02's Hand over as its last line: its answers and its ledger. Assumes nothing.
 use Rattle.std.specs.Prelude.{◌≡◌, refl, List, [], ◌∷◌, ◌++◌, pos}
-use Rattle.book.specs.declared.Call.{Call}
+use Rattle.book.specs.declared.calls.Call.{Call}
 use Rattle.computed.specs.Script.{Line, line, ok, play, account, receipt, matched, fund, ledger_after, sums_after, given_by_close}
 
 -- what comes before Close

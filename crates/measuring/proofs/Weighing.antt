@@ -1,4 +1,5 @@
 -- What measuring a match asks for: its weight due, amount and heat are within their ranges; six tests with one refusal. Assumes nothing.
+use Rattle.std.specs.Prelude.{Option, Some, None, ℕ}
 use mathlib.Core.Path.{◌≡◌, refl}
 use mathlib.Core.Bool.{Bool, true, false, ◌||◌}
 use Prim.Native.Nat.{ℕ, ◌*◌, ◌≤◌, ◌<◌}
@@ -9,9 +10,8 @@ use mir.Val.{Fits}
 use Rattle.coal.specs.Coal.{amount}
 use Rattle.coal.specs.Ranges.{most_due, most_price, most_weight}
 use Rattle.coal.proofs.laws.Bounds.{amount_most}
-use Rattle.book.specs.declared.Heat.{Heat}
-use Rattle.book.specs.declared.Book.{Book}
-use Rattle.book.specs.declared.Outcome.{Outcome}
+use Rattle.book.specs.declared.tables.Book.{Book}
+use Rattle.book.specs.Outcomes.{Outcome}
 use Rattle.book.specs.Answers.{refuse_if}
 use Rattle.book.specs.Rows.{heat_value}
 use Rattle.book.specs.Tables.{match_at}
@@ -40,9 +40,9 @@ amount_small x w r e h k = rw e (omega (arith, amount_most x w h k))
 pub heat_small : (b : Book) → Reached b → (j : ℕ) → j < b.match_count → heat_value (match_at b j).heat ≤ 10_000
 heat_small b r j h = heat_most (match_at b j).heat ((sound r).tables.core.matches.rows j h).heat_high
   where
-    heat_most : (t : Heat) → ((x : ℕ) → t ≡ Heat.Declared x → x ≤ 10_000) → heat_value t ≤ 10_000
-    heat_most Heat.Missing g = omega arith
-    heat_most (Heat.Declared x) g = g x refl
+    heat_most : (t : Option ℕ) → ((x : ℕ) → t ≡ Some x → x ≤ 10_000) → heat_value t ≤ 10_000
+    heat_most None g = omega arith
+    heat_most (Some x) g = g x refl
 
 -- six tests with one refusal
 pub any_of_six : (s t u v x y : Bool) (n : ℕ) (b : Book) (r z : Outcome) → z ≡ refuse_if (s || t || u || v || x || y) n b r → z ≡ refuse_if s n b (refuse_if t n b (refuse_if u n b (refuse_if v n b (refuse_if x n b (refuse_if y n b r)))))

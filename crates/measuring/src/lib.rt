@@ -9,7 +9,7 @@ ghost use Rattle.book.specs.Answers.{refusal_of};
 ghost use Rattle.book.specs.Tables.{match_at};
 ghost use Rattle.book.specs.Settlement.{measured, measure, terminated, terminate};
 ghost use Rattle.book.specs.Lists.{Reached};
-ghost use Rattle.rows.specs.Places.{place};
+ghost use Rattle.reached.specs.Places.{place};
 ghost use Rattle.payments.specs.Money.{most_paid, Due};
 
 use book::{Answer, Book, Match, Outcome, Stage};
@@ -67,7 +67,7 @@ fn out_of_range(w: u64, q: u64, m: u64, s: u64, f: u64, a: u64) -> bool
 }
 
 // The number with which Measure is refused, by the row at the match's place; 0 where it is accepted.
-#[tactic(auto, using(rows::specs::Places::match_found, rows::specs::Needs::calls, crate::proofs::Weighing::any_of_six), unfolding(book::specs::Settlement::measure))]
+#[tactic(auto, using(reached::specs::Places::match_found, reached::specs::Needs::calls, crate::proofs::Weighing::any_of_six), unfolding(book::specs::Settlement::measure))]
 pub fn measure_refusal(
     book: Book,
     c: Match,
@@ -138,7 +138,7 @@ fn terminated(book: Book, number: u64, m: Match, v: u64, party: u64) -> Book
 }
 
 // The number with which Terminate is refused, by the row at the match's place; 0 where it is accepted.
-#[tactic(auto, using(rows::specs::Places::match_found, rows::specs::Needs::calls), unfolding(book::specs::Settlement::terminate))]
+#[tactic(auto, using(reached::specs::Places::match_found, reached::specs::Needs::calls), unfolding(book::specs::Settlement::terminate))]
 pub fn terminate_refusal(book: Book, m: Match, number: u64, party: u64) -> u64
     requires reached { Reached book }
     requires m_value { m ≡ match_at book (place 256 number) }

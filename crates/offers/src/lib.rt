@@ -1,5 +1,5 @@
 // Calls 7 to 9: Declare, Offer, Retract.
-#![tactic(auto, using(rows::specs::Needs::calls), unfolding(book::specs::Offers::declare, book::specs::Offers::offer, book::specs::Offers::retract, book::specs::Tables::free_receipts))]
+#![tactic(auto, using(reached::specs::Needs::calls), unfolding(book::specs::Offers::declare, book::specs::Offers::offer, book::specs::Offers::retract, book::specs::Tables::free_receipts))]
 
 ghost use Rattle.std.specs.Prelude.{◌≡◌, ◌&&◌};
 ghost use Rattle.book.specs.Rows.{heat_missing};
@@ -7,7 +7,7 @@ ghost use Rattle.book.specs.Offers.{declare, offer, retract};
 ghost use Rattle.book.specs.Answers.{refusal_of};
 ghost use Rattle.book.specs.Tables.{account_at};
 ghost use Rattle.book.specs.Lists.{Reached};
-ghost use Rattle.rows.specs.Places.{place};
+ghost use Rattle.reached.specs.Places.{place};
 
 use book::{Account, Answer, Book, Outcome};
 

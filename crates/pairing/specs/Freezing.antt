@@ -3,8 +3,8 @@ use Rattle.std.specs.Prelude.{◌≡◌, Bool, true, false, get_or, set}
 use Rattle.std.proofs.Math.Path.{refl, sym}
 use Rattle.std.proofs.Common.{◌∙◌, eq-eqb, ne_eqb}
 use Prim.Native.Nat.{ℕ, zero, suc, ◌+◌, ◌-◌}
-use Rattle.book.specs.declared.Receipt.{Receipt}
-use Rattle.book.specs.declared.Freezing.{Freezing}
+use Rattle.book.specs.declared.receipts.Receipt.{Receipt}
+use Rattle.book.specs.Pairing.{Freezing}
 use Rattle.book.specs.Counting.{iter}
 use Rattle.book.specs.Rows.{blank_receipt, is_free_of, frozen_for}
 use Rattle.book.specs.Tables.{free_at}

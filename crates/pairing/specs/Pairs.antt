@@ -3,10 +3,10 @@ use Rattle.std.specs.Prelude.{◌≡◌, Bool, true, false, ℕ, ◌+◌, get_or
 use Rattle.std.proofs.Math.Path.{ap}
 use Rattle.std.proofs.Common.{◌∙◌}
 use mathlib.Core.List.{List}
-use Rattle.book.specs.declared.Account.{Account}
-use Rattle.book.specs.declared.Receipt.{Receipt}
-use Rattle.book.specs.declared.Match.{Match}
-use Rattle.book.specs.declared.Book.{Book}
+use Rattle.book.specs.declared.accounts.Account.{Account}
+use Rattle.book.specs.declared.receipts.Receipt.{Receipt}
+use Rattle.book.specs.declared.matches.Match.{Match}
+use Rattle.book.specs.declared.tables.Book.{Book}
 use Rattle.book.specs.Counting.{iter}
 use Rattle.book.specs.Rows.{blank_account, units_off}
 use Rattle.book.specs.Tables.{account_at, with_accounts, with_matches, with_receipts}

@@ -1,9 +1,8 @@
 -- What Take asks of a reached book. Assumes nothing.
-use Rattle.std.specs.Prelude.{◌≡◌, refl, Bool, true, false, ℕ, ◌+◌, ◌≤◌, ◌<◌}
+use Rattle.std.specs.Prelude.{◌≡◌, refl, Bool, true, false, ℕ, ◌+◌, ◌≤◌, ◌<◌, Option, Some, None}
 use Rattle.std.proofs.Common.{arith}
 use Rattle.coal.specs.Choice.{pick}
-use Rattle.book.specs.declared.Offer.{Offer}
-use Rattle.book.specs.declared.Book.{Book}
+use Rattle.book.specs.declared.tables.Book.{Book}
 use Rattle.book.specs.Rows.{is_short, offer_units}
 use Rattle.book.specs.Tables.{account_at}
 use Rattle.book.specs.Lists.{Reached}
@@ -17,9 +16,9 @@ offer_small b k r h = offered (account_at b k).offer refl
     short_few true = ((sound r).tables.core.accounts.rows k h).few
     short_few false = omega arith
 
-    offered : (o : Offer) → (account_at b k).offer ≡ o → offer_units o ≤ 1_000
-    offered Offer.Missing e = omega arith
-    offered (Offer.Units u) e = omega (arith, ((sound r).tables.offers k h).offered u e, short_few (is_short (account_at b k).side))
+    offered : (o : Option ℕ) → (account_at b k).offer ≡ o → offer_units o ≤ 1_000
+    offered None e = omega arith
+    offered (Some u) e = omega (arith, ((sound r).tables.offers k h).offered u e, short_few (is_short (account_at b k).side))
 
 -- the due day of a match fits its row
 pub due_small : (b : Book) → Reached b → b.day + 2 ≤ 10_000

@@ -1,5 +1,5 @@
 // Pairing, and call 10: Take.
-#![tactic(auto, using(rows::specs::Needs::calls), unfolding(book::specs::Pairing::pair, book::specs::Pairing::freeze, book::specs::Offers::take_offer, book::specs::Tables::free_receipts))]
+#![tactic(auto, using(reached::specs::Needs::calls), unfolding(book::specs::Pairing::pair, book::specs::Pairing::freeze, book::specs::Offers::take_offer, book::specs::Tables::free_receipts))]
 
 ghost use Rattle.std.specs.Prelude.{◌≡◌, ◌≤◌, ◌<◌, ◌+◌};
 ghost use Rattle.book.specs.Counting.{iter};
@@ -8,7 +8,7 @@ ghost use Rattle.book.specs.Offers.{take_offer};
 ghost use Rattle.book.specs.Answers.{refusal_of};
 ghost use Rattle.book.specs.Tables.{account_at};
 ghost use Rattle.book.specs.Lists.{Reached};
-ghost use Rattle.rows.specs.Places.{place};
+ghost use Rattle.reached.specs.Places.{place};
 
 use book::{Account, Answer, Book, Freezing, Outcome, Receipt};
 

@@ -1,15 +1,14 @@
 -- What the money of a match asks for: bounds of what is paid, and room for it in every account's cash and in the fund. Assumes nothing.
-use Rattle.std.specs.Prelude.{◌≡◌, refl, Bool, true, false, ℕ, suc, ◌+◌, ◌*◌, ◌≤◌, ◌<◌, pos, neg_ℤ, nat_abs}
+use Rattle.std.specs.Prelude.{◌≡◌, refl, Bool, true, false, ℕ, suc, ◌+◌, ◌*◌, ◌≤◌, ◌<◌, pos, neg_ℤ, nat_abs, Option, Some, None}
 use Rattle.std.proofs.Common.{arith, mul-le-mul, add_assoc, Fits}
 use Rattle.std.specs.Int.{w64}
 use Rattle.coal.specs.Choice.{pick}
 use Rattle.coal.specs.Coal.{percent_down}
 use Rattle.coal.proofs.laws.Bounds.{percent_down_most}
 use Rattle.whole.specs.Whole.{natAbs_sum, natAbs_neg}
-use Rattle.book.specs.declared.Account.{Account}
-use Rattle.book.specs.declared.Match.{Match}
-use Rattle.book.specs.declared.Fault.{Fault}
-use Rattle.book.specs.declared.Book.{Book}
+use Rattle.book.specs.declared.accounts.Account.{Account}
+use Rattle.book.specs.declared.matches.Match.{Match}
+use Rattle.book.specs.declared.tables.Book.{Book}
 use Rattle.book.specs.Rows.{blank_account}
 use Rattle.book.specs.Tables.{account_at, match_at, put_account, with_fund, pay, charge}
 use Rattle.book.specs.Settlement.{value}
@@ -17,7 +16,7 @@ use Rattle.book.specs.Lists.{Reached}
 use Rattle.book.proofs.laws.Counting.{at_set}
 use Rattle.book.proofs.laws.Sound.{Sound}
 use Rattle.book.proofs.laws.Reaching.{sound}
-use Rattle.rows.specs.Needs.{calls}
+use Rattle.reached.specs.Needs.{calls}
 
 -- ---- amounts, in fen
 
@@ -57,11 +56,11 @@ module _ (x n r : ℕ) (e : r ≡ percent_down x n) (h : x ≤ 100) where
   part_small k = omega (arith, part_most)
 
 -- the percent of a fault, 0 where there is none
-abbrev pub percent_of : Fault → ℕ
-percent_of Fault.Faultless = 0
-percent_of (Fault.Percent p) = p
+abbrev pub percent_of : Option ℕ → ℕ
+percent_of None = 0
+percent_of (Some p) = p
 
-pub percent_small : (x : Fault) (p : ℕ) → x ≡ Fault.Percent p → percent_of x ≤ 100 → p ≤ 100
+pub percent_small : (x : Option ℕ) (p : ℕ) → x ≡ Some p → percent_of x ≤ 100 → p ≤ 100
 percent_small x p e h = rw e at h
 
 -- ---- room for payments

@@ -3,7 +3,7 @@
 
 ghost use Rattle.std.specs.Prelude.{◌≡◌, not, ◌≤◌, ◌<◌, ◌*◌};
 ghost use Rattle.coal.specs.Choice.{pick};
-ghost use Rattle.book.specs.declared.Fault.{Fault};
+ghost use X.{Fault};
 ghost use Rattle.book.specs.Counting.{iter};
 ghost use Rattle.book.specs.Tables.{pay, charge};
 ghost use Rattle.book.specs.Settlement.{punish, release_turn, pass_turn, set_stage, handed};
@@ -67,7 +67,7 @@ pub fn set_stage(mut book: Book, number: u64, held: u64, stage: Stage) -> Book
 // ---- receipts of a match
 
 // "its receipts are free again"
-#[tactic(auto, using(rows::specs::Loops::none_turned, rows::specs::Loops::one_turned, rows::specs::Loops::all_turned), unfolding(book::specs::Settlement::release_turn))]
+#[tactic(auto, using(reached::specs::Loops::none_turned, reached::specs::Loops::one_turned, reached::specs::Loops::all_turned), unfolding(book::specs::Settlement::release_turn))]
 pub fn free_again(
     receipts: [Receipt; Book::RECEIPTS],
     count: usize,
@@ -85,7 +85,7 @@ pub fn free_again(
 }
 
 // "the receipts pass to the buyer, free"; a winner "takes the receipts"
-#[tactic(auto, using(rows::specs::Loops::none_turned, rows::specs::Loops::one_turned, rows::specs::Loops::all_turned), unfolding(book::specs::Settlement::pass_turn))]
+#[tactic(auto, using(reached::specs::Loops::none_turned, reached::specs::Loops::one_turned, reached::specs::Loops::all_turned), unfolding(book::specs::Settlement::pass_turn))]
 fn pass_receipts(
     receipts: [Receipt; Book::RECEIPTS],
     count: usize,

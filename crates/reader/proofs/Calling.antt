@@ -7,7 +7,7 @@ use lib.Dec.{eqb}
 use lib.ListN.{length, get_or, take}
 use lib.Seq.{ext_get_or}
 use Rattle.coal.specs.Choice.{pick}
-use Rattle.book.specs.declared.Call.{Call}
+use Rattle.book.specs.declared.calls.Call.{Call}
 use Rattle.reader.specs.declared.lines.Line.{Line}
 use Rattle.reader.specs.declared.lines.OpeningLine.{OpeningLine}
 use Rattle.reader.specs.Lines.{call_of, opening_of, one_argument, two_arguments, three_arguments}

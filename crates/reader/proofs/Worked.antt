@@ -2,7 +2,7 @@
 use mathlib.Core.Path.{◌≡◌, refl}
 use mathlib.Core.List.{[], ◌∷◌, map}
 use lib.ListN.{replicate}
-use Rattle.book.specs.declared.Call.{Call}
+use Rattle.book.specs.declared.calls.Call.{Call}
 use Rattle.text.specs.Text.{bytes}
 use Rattle.reader.specs.declared.lines.Line.{Line}
 use Rattle.reader.specs.declared.lines.OpeningLine.{OpeningLine}

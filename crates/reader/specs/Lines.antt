@@ -1,7 +1,7 @@
 -- The lines of a text, and what a line says: a call, or the opening. Assumes nothing.
 use Rattle.std.specs.Prelude.{List, [], ◌∷◌, ℕ, ◌+◌, eqb}
 use Rattle.coal.specs.Choice.{pick}
-use Rattle.book.specs.declared.Call.{Call}
+use Rattle.book.specs.declared.calls.Call.{Call}
 use Rattle.reader.specs.declared.lines.Line.{Line}
 use Rattle.reader.specs.declared.lines.OpeningLine.{OpeningLine}
 use Rattle.reader.specs.Numbers.{numbers}

@@ -1,5 +1,5 @@
 // Calls 5 and 6: Lodge, Strike; and the count of an owner's free receipts.
-#![tactic(auto, using(rows::specs::Needs::calls), unfolding(book::specs::Receipts::lodge, book::specs::Receipts::strike))]
+#![tactic(auto, using(reached::specs::Needs::calls), unfolding(book::specs::Receipts::lodge, book::specs::Receipts::strike))]
 
 ghost use Rattle.std.specs.Prelude.{◌≡◌, not, ◌&&◌, ◌≤◌, ltb};
 ghost use Rattle.book.specs.Counting.{tally};

@@ -1,7 +1,7 @@
 -- Refusals of ten calls by the book's numbers and the rows that the call names. Assumes nothing.
 use Rattle.std.specs.Prelude.{◌≡◌, ℕ}
-use Rattle.book.specs.declared.Call.{Call}
-use Rattle.book.specs.declared.Book.{Book}
+use Rattle.book.specs.declared.calls.Call.{Call}
+use Rattle.book.specs.declared.tables.Book.{Book}
 use Rattle.book.specs.Answers.{refuse, refusal_of}
 use Rattle.book.specs.Calls.{step}
 use Rattle.book.proofs.laws.Answered.{refused_is}

@@ -4,7 +4,7 @@
 ghost use Rattle.std.specs.Prelude.{◌≡◌};
 ghost use Rattle.book.specs.Tables.{account_at, match_at};
 ghost use Rattle.book.specs.Lists.{Reached};
-ghost use Rattle.rows.specs.Places.{place};
+ghost use Rattle.reached.specs.Places.{place};
 ghost use Rattle.refusals.specs.Early.{of_match, of_parties, of_bid, rows_named, early};
 
 use book::{Account, Book, Call, Match};

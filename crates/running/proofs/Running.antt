@@ -7,9 +7,9 @@ use native.Mathlib.Omega.{arith}
 use lib.ListN.{length, take, drop, drop_of_length-le, length-drop}
 use lib.Seq.{length-take-le}
 use Rattle.coal.specs.Choice.{pick}
-use Rattle.book.specs.declared.Book.{Book}
-use Rattle.book.specs.declared.Outcome.{Outcome}
-use Rattle.book.specs.declared.Call.{Call}
+use Rattle.book.specs.declared.tables.Book.{Book}
+use Rattle.book.specs.declared.calls.Call.{Call}
+use Rattle.book.specs.Outcomes.{Outcome}
 use Rattle.book.specs.Lists.{Reached, called, after}
 use Rattle.book.proofs.laws.Counting.{by_pick}
 use Rattle.reader.specs.declared.lines.Line.{Line}

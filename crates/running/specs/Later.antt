@@ -1,9 +1,9 @@
 -- The lines of a session after line one: what each prints, and the calls that they make. Assumes nothing.
 use Rattle.std.specs.Prelude.{◌≡◌, Bool, List, [], ◌∷◌, ◌++◌, ℕ, ◌≤◌}
 use Rattle.coal.specs.Choice.{pick}
-use Rattle.book.specs.declared.Book.{Book}
-use Rattle.book.specs.declared.Outcome.{Outcome}
-use Rattle.book.specs.declared.Call.{Call}
+use Rattle.book.specs.declared.tables.Book.{Book}
+use Rattle.book.specs.declared.calls.Call.{Call}
+use Rattle.book.specs.Outcomes.{Outcome}
 use Rattle.book.specs.Answers.{refuse}
 use Rattle.book.specs.Calls.{step}
 use Rattle.book.specs.Lists.{after}

@@ -9,9 +9,8 @@ use lib.ListN.{length, take, drop, length-append}
 use lib.Seq.{length-take-le}
 use borrow.Author.Tests.{lt-ltb, le-ltb}
 use Rattle.coal.specs.Choice.{pick}
-use Rattle.book.specs.declared.Book.{Book}
-use Rattle.book.specs.declared.Answer.{Answer}
-use Rattle.book.specs.declared.Outcome.{Outcome}
+use Rattle.book.specs.declared.tables.Book.{Book}
+use Rattle.book.specs.Outcomes.{Answer, Outcome}
 use Rattle.book.specs.Answers.{is_accepted}
 use Rattle.book.specs.Opening.{opening}
 use Rattle.book.proofs.laws.Counting.{by_pick}

@@ -9,10 +9,9 @@ use lib.Dec.{ltb}
 use lib.ListN.{length, take, drop, length-take}
 use borrow.Author.Tests.{lt-ltb, le-ltb, ltb-false}
 use Rattle.coal.specs.Choice.{pick}
-use Rattle.book.specs.declared.Book.{Book}
-use Rattle.book.specs.declared.Answer.{Answer}
-use Rattle.book.specs.declared.Outcome.{Outcome}
-use Rattle.book.specs.declared.Call.{Call}
+use Rattle.book.specs.declared.tables.Book.{Book}
+use Rattle.book.specs.declared.calls.Call.{Call}
+use Rattle.book.specs.Outcomes.{Answer, Outcome}
 use Rattle.book.specs.Answers.{refuse, accept, is_accepted}
 use Rattle.book.specs.Calls.{step}
 use Rattle.book.specs.Opening.{opening, no_book}

@@ -1,8 +1,8 @@
 -- The session program: from the bytes of its input to the bytes of its output. Assumes nothing.
 use Rattle.std.specs.Prelude.{◌≡◌, true, List, [], ◌∷◌, ◌++◌, ℕ, ◌≤◌, ltb, length, take, drop}
 use Rattle.coal.specs.Choice.{pick}
-use Rattle.book.specs.declared.Book.{Book}
-use Rattle.book.specs.declared.Outcome.{Outcome}
+use Rattle.book.specs.declared.tables.Book.{Book}
+use Rattle.book.specs.Outcomes.{Outcome}
 use Rattle.book.specs.Answers.{refuse, accept, is_accepted}
 use Rattle.book.specs.Opening.{opening, no_book}
 use Rattle.book.specs.Lists.{after}

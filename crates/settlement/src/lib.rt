@@ -3,14 +3,14 @@
 
 ghost use Rattle.std.specs.Prelude.{◌≡◌, ◌&&◌, ◌≤◌, ◌<◌, ltb};
 ghost use Rattle.coal.specs.Choice.{pick};
-ghost use Rattle.book.specs.declared.Stage.{Stage};
+ghost use Rattle.book.specs.declared.matches.Stage.{Stage};
 ghost use Rattle.book.specs.Counting.{tally};
 ghost use Rattle.book.specs.Rows.{heat_missing};
 ghost use Rattle.book.specs.Answers.{refusal_of};
 ghost use Rattle.book.specs.Tables.{match_at, frozen_at, ordinary_at};
 ghost use Rattle.book.specs.Settlement.{buyer_fault, seller_fault, into_held, to_auction, fault_ended, paid, pay_match, invoice, hand_over};
 ghost use Rattle.book.specs.Lists.{Reached};
-ghost use Rattle.rows.specs.Places.{place};
+ghost use Rattle.reached.specs.Places.{place};
 ghost use Rattle.payments.specs.Money.{percent_of, Due};
 
 use book::{Answer, Book, Fault, Match, Outcome, Receipt, Stage};
@@ -26,7 +26,7 @@ struct Frozen {
 }
 
 // Of the first receipts of a table, how many are frozen for a match, and how many of them are ordinary.
-#[tactic(auto, using(rows::specs::Loops::none_counted))]
+#[tactic(auto, using(reached::specs::Loops::none_counted))]
 fn frozen_receipts(receipts: [Receipt; Book::RECEIPTS], count: usize, number: u64) -> Frozen
     requires { count ≤ 256 }
     ensures all_value { result.all ≡ tally count 0 (frozen_at receipts number) }
@@ -124,7 +124,7 @@ fn paid(book: Book, number: u64, m: Match, v: u64, auction: bool, x: Fault, y: F
 }
 
 // "Buyer's fault: unfit (10%), else cash below V (R%)", the seller's by its receipts or heat, and the match paid or ended.
-#[tactic(auto, using(payments::specs::Money::money, rows::specs::Needs::calls), unfolding(book::specs::Settlement::buyer_fault, book::specs::Settlement::seller_fault, book::specs::Settlement::to_auction, book::specs::Tables::frozen_receipts, book::specs::Tables::ordinary_receipts, book::specs::Settlement::value))]
+#[tactic(auto, using(payments::specs::Money::money, reached::specs::Needs::calls), unfolding(book::specs::Settlement::buyer_fault, book::specs::Settlement::seller_fault, book::specs::Settlement::to_auction, book::specs::Tables::frozen_receipts, book::specs::Tables::ordinary_receipts, book::specs::Settlement::value))]
 fn pay_due(book: Book, number: u64) -> Book
     requires reached { Reached book }
     requires number_bound { number < book.match_count }
@@ -150,7 +150,7 @@ fn pay_due(book: Book, number: u64) -> Book
 }
 
 // The number with which Pay is refused, by the row at the match's place; 0 where it is accepted.
-#[tactic(auto, using(rows::specs::Places::match_found, rows::specs::Needs::calls), unfolding(book::specs::Settlement::pay_match))]
+#[tactic(auto, using(reached::specs::Places::match_found, reached::specs::Needs::calls), unfolding(book::specs::Settlement::pay_match))]
 pub fn pay_refusal(book: Book, m: Match, number: u64) -> u64
     requires reached { Reached book }
     requires m_value { m ≡ match_at book (place 256 number) }
@@ -192,7 +192,7 @@ pub fn pay_match(book: Book, number: u64) -> Outcome
 // ---- Hand over
 
 // The number with which Hand over is refused, by the row at the match's place; 0 where it is accepted.
-#[tactic(auto, using(rows::specs::Places::match_found, rows::specs::Needs::calls), unfolding(book::specs::Settlement::hand_over))]
+#[tactic(auto, using(reached::specs::Places::match_found, reached::specs::Needs::calls), unfolding(book::specs::Settlement::hand_over))]
 pub fn hand_over_refusal(book: Book, m: Match, number: u64) -> u64
     requires reached { Reached book }
     requires m_value { m ≡ match_at book (place 256 number) }
@@ -232,7 +232,7 @@ pub fn hand_over(book: Book, number: u64) -> Outcome
 // ---- Invoice
 
 // The number with which Invoice is refused, by the row at the match's place; 0 where it is accepted.
-#[tactic(auto, using(rows::specs::Places::match_found, rows::specs::Needs::calls), unfolding(book::specs::Settlement::invoice))]
+#[tactic(auto, using(reached::specs::Places::match_found, reached::specs::Needs::calls), unfolding(book::specs::Settlement::invoice))]
 pub fn invoice_refusal(book: Book, m: Match, number: u64) -> u64
     requires reached { Reached book }
     requires m_value { m ≡ match_at book (place 256 number) }

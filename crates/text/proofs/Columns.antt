@@ -10,13 +10,13 @@ use lib.Dec.{ltb, leb}
 use lib.IntN.{ℤ, pos, negsuc, nat_abs}
 use lib.ListN.{length, length-append, length-replicate}
 use Rattle.coal.specs.Choice.{pick}
-use Rattle.book.specs.declared.Side.{Side}
-use Rattle.book.specs.declared.ReceiptState.{ReceiptState}
-use Rattle.book.specs.declared.Account.{Account}
-use Rattle.book.specs.declared.Receipt.{Receipt}
-use Rattle.book.specs.declared.Stage.{Stage}
-use Rattle.book.specs.declared.Match.{Match}
-use Rattle.book.specs.declared.Book.{Book}
+use Rattle.book.specs.declared.accounts.Side.{Side}
+use Rattle.book.specs.declared.receipts.ReceiptState.{ReceiptState}
+use Rattle.book.specs.declared.accounts.Account.{Account}
+use Rattle.book.specs.declared.receipts.Receipt.{Receipt}
+use Rattle.book.specs.declared.matches.Stage.{Stage}
+use Rattle.book.specs.declared.matches.Match.{Match}
+use Rattle.book.specs.declared.tables.Book.{Book}
 use Rattle.book.specs.Codes.{stage_number}
 use Rattle.book.specs.Tables.{account_at, receipt_at, match_at}
 use Rattle.book.specs.Lists.{Reached}

@@ -5,8 +5,8 @@ use mathlib.Core.Path.{◌≡◌, refl, sym, ◌∙◌}
 use mathlib.Core.List.{List}
 use borrow.Author.Tests.{lt-ltb, le-ltb}
 use lib.ListN.{length, take-append-drop}
-use Rattle.book.specs.declared.Book.{Book}
-use Rattle.book.specs.declared.Answer.{Answer}
+use Rattle.book.specs.declared.tables.Book.{Book}
+use Rattle.book.specs.Outcomes.{Answer}
 use Rattle.book.specs.Lists.{Reached}
 use Rattle.text.specs.Print.{Put}
 use Rattle.text.specs.Page.{page, line_count, lent, page_answer}

@@ -1,17 +1,17 @@
 -- Document 01's worked session, with Hand over as document 02 ends it, computed: its ledger and its page printed. Assumes nothing.
+use Rattle.std.specs.Prelude.{None}
 use Prim.Native.Nat.{ℕ}
 use mathlib.Core.Path.{◌≡◌, refl}
 use mathlib.Core.Bool.{true, false}
 use mathlib.Core.List.{[], ◌∷◌, ◌++◌, map}
 use lib.IntN.{pos, negsuc}
 use lib.ListN.{replicate}
-use Rattle.book.specs.declared.Heat.{Heat}
-use Rattle.book.specs.declared.ReceiptState.{ReceiptState}
-use Rattle.book.specs.declared.Side.{Side}
-use Rattle.book.specs.declared.Stage.{Stage}
-use Rattle.book.specs.declared.Match.{Match}
-use Rattle.book.specs.declared.Book.{Book}
-use Rattle.book.specs.declared.Answer.{Answer}
+use Rattle.book.specs.declared.receipts.ReceiptState.{ReceiptState}
+use Rattle.book.specs.declared.accounts.Side.{Side}
+use Rattle.book.specs.declared.matches.Stage.{Stage}
+use Rattle.book.specs.declared.matches.Match.{Match}
+use Rattle.book.specs.declared.tables.Book.{Book}
+use Rattle.book.specs.Outcomes.{Answer}
 use Rattle.book.specs.Rows.{no_lots, blank_account, blank_receipt, blank_match, with_cash, with_position}
 use Rattle.text.specs.Text.{bytes}
 use Rattle.text.specs.Print.{digits, last_digits, spaced, signed, answer_line}
@@ -19,7 +19,7 @@ use Rattle.text.specs.Ledger.{each, account_row, receipt_row, match_row, ledger}
 use Rattle.text.specs.Page.{right, padded, yuan, account_columns, receipt_columns, account_entry, receipt_entry, match_entry, page, lent, page_answer}
 
 paired : ℕ → Stage → Match
-paired x s = record { held = x; price = 600_000; units = 1; due = 1; heat = Heat.Missing; buyer = 1; seller = 0; stage = s }
+paired x s = record { held = x; price = 600_000; units = 1; due = 1; heat = None; buyer = 1; seller = 0; stage = s }
 
 worked : Book
 worked =

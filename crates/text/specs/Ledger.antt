@@ -1,9 +1,9 @@
 -- The ledger: "sections in a fixed order, each after its count". Assumes nothing.
 use Rattle.std.specs.Prelude.{List, [], ◌∷◌, ◌++◌, ℕ, zero, suc, ◌+◌, get_or}
-use Rattle.book.specs.declared.Account.{Account}
-use Rattle.book.specs.declared.Receipt.{Receipt}
-use Rattle.book.specs.declared.Match.{Match}
-use Rattle.book.specs.declared.Book.{Book}
+use Rattle.book.specs.declared.accounts.Account.{Account}
+use Rattle.book.specs.declared.receipts.Receipt.{Receipt}
+use Rattle.book.specs.declared.matches.Match.{Match}
+use Rattle.book.specs.declared.tables.Book.{Book}
 use Rattle.book.specs.Codes.{side_number, class_number, state_number, stage_number}
 use Rattle.book.specs.Rows.{blank_account, blank_receipt, blank_match}
 use Rattle.text.specs.Text.{bytes}

@@ -1,13 +1,13 @@
 -- The ledger page of document 02's Job 1: "lines of 40 characters and a newline". Assumes nothing.
 use Rattle.std.specs.Prelude.{◌≡◌, Bool, true, false, List, [], ◌∷◌, ◌++◌, ℕ, suc, ◌-◌, ◌+◌, ◌/◌, ◌%◌, ltb, leb, length, drop, get_or, replicate}
 use Rattle.coal.specs.Choice.{pick}
-use Rattle.book.specs.declared.Side.{Side}
-use Rattle.book.specs.declared.ReceiptState.{ReceiptState}
-use Rattle.book.specs.declared.Account.{Account}
-use Rattle.book.specs.declared.Receipt.{Receipt}
-use Rattle.book.specs.declared.Match.{Match}
-use Rattle.book.specs.declared.Book.{Book}
-use Rattle.book.specs.declared.Answer.{Answer}
+use Rattle.book.specs.declared.accounts.Side.{Side}
+use Rattle.book.specs.declared.receipts.ReceiptState.{ReceiptState}
+use Rattle.book.specs.declared.accounts.Account.{Account}
+use Rattle.book.specs.declared.receipts.Receipt.{Receipt}
+use Rattle.book.specs.declared.matches.Match.{Match}
+use Rattle.book.specs.declared.tables.Book.{Book}
+use Rattle.book.specs.Outcomes.{Answer}
 use Rattle.book.specs.Codes.{stage_number}
 use Rattle.book.specs.Rows.{blank_account, blank_receipt, blank_match}
 use Rattle.text.specs.Text.{bytes}

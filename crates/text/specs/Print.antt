@@ -2,7 +2,7 @@
 use Rattle.std.specs.Prelude.{◌≡◌, List, [], ◌∷◌, ◌++◌, ℕ, zero, suc, ◌+◌, ◌/◌, ◌%◌, ltb, ℤ, pos, negsuc, length, take, drop}
 use Rattle.coal.specs.Choice.{pick}
 use Rattle.text.specs.Text.{bytes}
-use Rattle.book.specs.declared.Answer.{Answer}
+use Rattle.book.specs.Outcomes.{Answer}
 use Rattle.book.specs.Answers.{is_accepted, answer_values}
 
 -- from place at to place r the bytes were written; what stood before at still stands there, and so does what stood from r on

@@ -1,5 +1,5 @@
-use Rattle.rows.specs.Needs.{calls}
+use Rattle.reached.specs.Needs.{calls}
 use Rattle.accounts.proofs.deposit.Goals as goal
 
-pub overflow_add-deposited : goal.overflow_add-deposited
-overflow_add-deposited c = search calls
+pub overflow_add-book : goal.overflow_add-book
+overflow_add-book c = search calls

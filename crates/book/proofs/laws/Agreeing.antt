@@ -1,13 +1,13 @@
 -- Pay, with Hand over directly after it in a receipts book without a fault, gives what Settle gives, but for a match that goes to auction. By cases on the
 -- tests, the faults, the kind of book and whether it goes there. Assumes nothing.
-use Rattle.std.specs.Prelude.{◌≡◌, Bool, not, ◌&&◌, ℕ, ◌<◌, ltb, leb, length}
+use Rattle.std.specs.Prelude.{◌≡◌, Bool, not, ◌&&◌, ℕ, ◌<◌, ltb, leb, length, Option, Some, None}
 use Rattle.std.proofs.Math.Path.{refl, ap}
 use Rattle.std.proofs.Math.Bool.{true, false}
 use Rattle.std.proofs.Common.{arith, set-set}
 use Rattle.std.proofs.Math.Seq.{get_or-set_same}
 use borrow.Author.Tests.{leb-false, lt-leb}
 use Rattle.coal.specs.Choice.{pick}
-use Rattle.book.specs.Types.{Stage, Match, Book, Outcome, Fault}
+use Rattle.book.specs.Types.{Stage, Match, Book, Outcome}
 use Rattle.book.specs.Rows.{blank_match, with_held, is_paired}
 use Rattle.book.specs.Tables.{match_at, pay, charge}
 use Rattle.book.specs.Answers.{refuse_if, accept, is_accepted}
@@ -58,19 +58,19 @@ module _ (b : Book) (j : ℕ) where
 
     -- ---- by the faults
 
-    by_faults : j < b.match_count → j < length b.matches → m ≡ match_at b j → to_auction b j m ≡ false → (x y : Fault) → not b.board && (is_faultless x && is_faultless y) ≡ true → hand_over (paid b j m x y) j ≡ accept 0 (settled b j m x y)
+    by_faults : j < b.match_count → j < length b.matches → m ≡ match_at b j → to_auction b j m ≡ false → (x y : Option ℕ) → not b.board && (is_faultless x && is_faultless y) ≡ true → hand_over (paid b j m x y) j ≡ accept 0 (settled b j m x y)
     unfolding paid paid_stage settled
-    by_faults p h e g Fault.Faultless Fault.Faultless f = handed_over p h e b.board (to_auction b j m) g f
-    by_faults p h e g (Fault.Percent x) Fault.Faultless f = cc (never (not b.board))
-    by_faults p h e g Fault.Faultless (Fault.Percent y) f = cc (never (not b.board))
-    by_faults p h e g (Fault.Percent x) (Fault.Percent y) f = cc (never (not b.board))
+    by_faults p h e g None None f = handed_over p h e b.board (to_auction b j m) g f
+    by_faults p h e g (Some x) None f = cc (never (not b.board))
+    by_faults p h e g None (Some y) f = cc (never (not b.board))
+    by_faults p h e g (Some x) (Some y) f = cc (never (not b.board))
 
-    by_faults_alone : (x y : Fault) → not b.board && (is_faultless x && is_faultless y) ≡ false → paid b j m x y ≡ settled b j m x y
+    by_faults_alone : (x y : Option ℕ) → not b.board && (is_faultless x && is_faultless y) ≡ false → paid b j m x y ≡ settled b j m x y
     unfolding paid paid_stage settled
-    by_faults_alone Fault.Faultless Fault.Faultless f = prepaid b.board _ f
-    by_faults_alone (Fault.Percent x) Fault.Faultless f = refl
-    by_faults_alone Fault.Faultless (Fault.Percent y) f = refl
-    by_faults_alone (Fault.Percent x) (Fault.Percent y) f = refl
+    by_faults_alone None None f = prepaid b.board _ f
+    by_faults_alone (Some x) None f = refl
+    by_faults_alone None (Some y) f = refl
+    by_faults_alone (Some x) (Some y) f = refl
 
   -- of a table that has the match's cell
   pub agrees : (j < b.match_count → j < length b.matches) → Agrees b j

@@ -1,11 +1,12 @@
 -- The refusals of all eighteen calls, gone through once: a call is refused and leaves the book, or it is accepted, none of its conditions applies,
 -- and it leaves the book that its rule says. A law of single calls goes by cases on this. Assumes nothing.
-use Rattle.std.specs.Prelude.{◌≡◌, refl, Bool, true, false, not, ◌&&◌, ℕ, ◌+◌, ◌-◌, ◌≤◌, ◌<◌, ltb, pos}
+use Rattle.std.specs.Prelude.{◌≡◌, refl, Bool, true, false, not, ◌&&◌, ℕ, ◌+◌, ◌-◌, ◌≤◌, ◌<◌, ltb, pos, Option, Some, None}
 use Rattle.std.proofs.Common.{sym, ap, ◌∙◌, arith, ltb-true, ltb-false, leb-false, eqb-true}
 use Rattle.std.proofs.lemmas.Bool.{eqb-false, not-false}
 use Rattle.std.specs.Int.Signed.{lt_z}
-use Rattle.book.specs.Types.{Heat, Offer, ReceiptState, Stage, Book, Outcome, Call}
+use Rattle.book.specs.Types.{ReceiptState, Stage, Book, Outcome, Call}
 use Rattle.book.specs.Rows.{needs_fifth, with_heat, with_offer, with_state, long_units, short_units, is_long, is_short, offer_missing, offer_units, heat_missing, is_struck, is_frozen, is_paired, is_prepaid, is_held, is_funded, is_awaiting, any_class}
+use Rattle.book.specs.Codes.{sample}
 use Rattle.book.specs.Tables.{account_at, receipt_at, match_at, add_account, add_receipt, put_account, put_receipt, with_deposited, with_day, with_open, pay, charge, free_receipts}
 use Rattle.book.specs.Answers.{refuse, refuse_if, accept, refusal_of}
 use Rattle.book.specs.Opening.{fresh, no_book, opening, next_day}
@@ -75,22 +76,22 @@ pub record MayOffer (b : Book) (seller u : ℕ) : Type 0 where
   pub there : seller < b.account_count
   pub some : 1 ≤ u
   pub few : u ≤ 1_000
-  pub none : (account_at b seller).offer ≡ Offer.Missing
+  pub none : (account_at b seller).offer ≡ None
   pub short : u ≤ short_units (account_at b seller)
   pub receipts : b.board ≡ false → u ≤ free_receipts b any_class seller
-  pub heat : b.board ≡ true → (account_at b seller).heat ≡ Heat.Missing → ⊥
+  pub heat : b.board ≡ true → (account_at b seller).heat ≡ None → ⊥
 
 pub record MayRetract (b : Book) (seller : ℕ) : Type 0 where
   pub is_open : b.«open» ≡ true
   pub there : seller < b.account_count
-  pub stands : (account_at b seller).offer ≡ Offer.Units (offer_units (account_at b seller).offer)
+  pub stands : (account_at b seller).offer ≡ Some (offer_units (account_at b seller).offer)
 
 pub record MayTake (b : Book) (buyer seller : ℕ) : Type 0 where
   pub is_open : b.«open» ≡ true
   pub buyer_there : buyer < b.account_count
   pub seller_there : seller < b.account_count
   pub two : buyer ≡ seller → ⊥
-  pub stands : (account_at b seller).offer ≡ Offer.Units (offer_units (account_at b seller).offer)
+  pub stands : (account_at b seller).offer ≡ Some (offer_units (account_at b seller).offer)
   pub long : offer_units (account_at b seller).offer ≤ long_units (account_at b buyer)
   pub receipts : b.board ≡ false → offer_units (account_at b seller).offer ≤ free_receipts b any_class seller
   pub space : b.match_count < 64
@@ -151,14 +152,14 @@ pub data Answered (b : Book) : Call → Outcome → Type 0 where
   trades : {buyer seller u : ℕ} → MayTrade b buyer seller u → Answered b (Call.Trade buyer seller u) (accept 0 (traded b buyer seller u))
   lodges : {owner class : ℕ} → MayLodge b owner class → Answered b (Call.Lodge owner class) (accept b.receipt_count (add_receipt b (new_receipt owner class)))
   strikes : {owner i : ℕ} → MayStrike b owner i → Answered b (Call.Strike owner i) (accept 0 (put_receipt b i (with_state (receipt_at b i) ReceiptState.Struck)))
-  declares : {k h : ℕ} → MayDeclare b k h → Answered b (Call.Declare k h) (accept 0 (put_account b k (with_heat (account_at b k) (Heat.Declared h))))
-  offers : {seller u : ℕ} → MayOffer b seller u → Answered b (Call.Offer seller u) (accept 0 (put_account b seller (with_offer (account_at b seller) (Offer.Units u))))
+  declares : {k h : ℕ} → MayDeclare b k h → Answered b (Call.Declare k h) (accept 0 (put_account b k (with_heat (account_at b k) (Some h))))
+  offers : {seller u : ℕ} → MayOffer b seller u → Answered b (Call.Offer seller u) (accept 0 (put_account b seller (with_offer (account_at b seller) (Some u))))
   retracts : {seller : ℕ} → MayRetract b seller → Answered b (Call.Retract seller) (accept 0 (end_offer b seller))
   takes : {buyer seller : ℕ} → MayTake b buyer seller → Answered b (Call.Take buyer seller) (accept b.match_count (end_offer (pair b any_class 2 buyer seller (offer_units (account_at b seller).offer)) seller))
   days : {p : ℕ} → MayDay b p → Answered b (Call.Day p) (accept (b.day + 1) (with_day b p (b.day + 1)))
   closes : MayClose b → Answered b Call.Close (accept ((all_passes b).match_count - b.match_count) (with_open (lapse_offers (all_passes b)) false))
   pays : {j : ℕ} → MayPay b j → Answered b (Call.Pay j) (accept 0 (paid b j (match_at b j) (buyer_fault b j) (seller_fault b j)))
-  measures : {j w q m s f a : ℕ} → MayMeasure b j w q m s f a → Answered b (Call.Measure j w q m s f a) (accept (cargo b (match_at b j) w m).over (measured b j (match_at b j) (amount_due b (match_at b j) w q m s f a)))
+  measures : {j w q m s f a : ℕ} → MayMeasure b j w q m s f a → Answered b (Call.Measure j (sample w q m s f a)) (accept (cargo b (match_at b j) w m).over (measured b j (match_at b j) (amount_due b (match_at b j) w q m s f a)))
   invoices : {j : ℕ} → MayInvoice b j → Answered b (Call.Invoice j) (accept 0 (set_stage (pay b (match_at b j).seller (match_at b j).held) j 0 Stage.Closed))
   terminates : {j party : ℕ} → MayTerminate b j party → Answered b (Call.Terminate j party) (accept 0 (terminated b j (match_at b j) party))
   hands_over : {j : ℕ} → MayHandOver b j → Answered b (Call.HandOver j) (accept 0 (handed b j (match_at b j) (value b (match_at b j)) (match_at b j).buyer))
@@ -229,15 +230,15 @@ free_is ReceiptState.Free g h = refl
 free_is (ReceiptState.Frozen j) g h = cc
 free_is ReceiptState.Struck g h = cc
 
-missing_is : (o : Offer) → not (offer_missing o) ≡ false → o ≡ Offer.Missing
-missing_is Offer.Missing h = refl
-missing_is (Offer.Units u) h = cc
+missing_is : (o : Option ℕ) → not (offer_missing o) ≡ false → o ≡ None
+missing_is None h = refl
+missing_is (Some u) h = cc
 
-standing_is : (o : Offer) → offer_missing o ≡ false → o ≡ Offer.Units (offer_units o)
-standing_is Offer.Missing h = cc
-standing_is (Offer.Units u) h = refl
+standing_is : (o : Option ℕ) → offer_missing o ≡ false → o ≡ Some (offer_units o)
+standing_is None h = cc
+standing_is (Some u) h = refl
 
-declared_is : (h : Heat) → heat_missing h ≡ false → h ≡ Heat.Missing → ⊥
+declared_is : (h : Option ℕ) → heat_missing h ≡ false → h ≡ None → ⊥
 declared_is h e m = impossible (cc (rw m at e))
 
 ruleset accepted = (joins, deposits, withdraws, trades, lodges, strikes, declares, offers, retracts, takes, days, closes, pays, measures, invoices, terminates, hands_over, auctions)
@@ -260,7 +261,7 @@ answered b (Call.Take buyer seller) = search tests depth 16
 answered b (Call.Day p) = search tests depth 16
 answered b Call.Close = search tests depth 16
 answered b (Call.Pay j) = search tests depth 16
-answered b (Call.Measure j w q m s f a) = search tests depth 16
+answered b (Call.Measure j x) = search tests depth 16
 answered b (Call.Invoice j) = search tests depth 16
 answered b (Call.Terminate j party) = search tests depth 16
 answered b (Call.HandOver j) = search tests depth 16
@@ -297,7 +298,7 @@ module _ (b : Book) where
   trade_goes (refused n p) h = absurd (omega arith)
   trade_goes (trades g) h = (g, refl)
 
-  offer_goes : {seller u : ℕ} {o : Outcome} → Answered b (Call.Offer seller u) o → refusal_of o.answer ≡ 0 → MayOffer b seller u × (accept 0 (put_account b seller (with_offer (account_at b seller) (Offer.Units u))) ≡ o)
+  offer_goes : {seller u : ℕ} {o : Outcome} → Answered b (Call.Offer seller u) o → refusal_of o.answer ≡ 0 → MayOffer b seller u × (accept 0 (put_account b seller (with_offer (account_at b seller) (Some u))) ≡ o)
   offer_goes (refused n p) h = absurd (omega arith)
   offer_goes (offers g) h = (g, refl)
 
@@ -309,7 +310,7 @@ module _ (b : Book) where
   pay_goes (refused n p) h = absurd (omega arith)
   pay_goes (pays g) h = (g, refl)
 
-  measure_goes : {j w q m s f a : ℕ} {o : Outcome} → Answered b (Call.Measure j w q m s f a) o → refusal_of o.answer ≡ 0 → MayMeasure b j w q m s f a × (accept (cargo b (match_at b j) w m).over (measured b j (match_at b j) (amount_due b (match_at b j) w q m s f a)) ≡ o)
+  measure_goes : {j w q m s f a : ℕ} {o : Outcome} → Answered b (Call.Measure j (sample w q m s f a)) o → refusal_of o.answer ≡ 0 → MayMeasure b j w q m s f a × (accept (cargo b (match_at b j) w m).over (measured b j (match_at b j) (amount_due b (match_at b j) w q m s f a)) ≡ o)
   measure_goes (refused n p) h = absurd (omega arith)
   measure_goes (measures g) h = (g, refl)
 
@@ -333,7 +334,7 @@ module _ (b : Book) where
   unfolding step
   trade_accepted buyer seller u e h = trade_goes (answered b (Call.Trade buyer seller u)) (sym e ∙ h)
 
-  pub offer_accepted : (seller u : ℕ) {n : ℕ} → n ≡ refusal_of (offer b seller u).answer → n ≡ 0 → MayOffer b seller u × (accept 0 (put_account b seller (with_offer (account_at b seller) (Offer.Units u))) ≡ offer b seller u)
+  pub offer_accepted : (seller u : ℕ) {n : ℕ} → n ≡ refusal_of (offer b seller u).answer → n ≡ 0 → MayOffer b seller u × (accept 0 (put_account b seller (with_offer (account_at b seller) (Some u))) ≡ offer b seller u)
   unfolding step
   offer_accepted seller u e h = offer_goes (answered b (Call.Offer seller u)) (sym e ∙ h)
 
@@ -347,7 +348,7 @@ module _ (b : Book) where
 
   pub measure_accepted : (j w q m s f a : ℕ) {n : ℕ} → n ≡ refusal_of (measure b j w q m s f a).answer → n ≡ 0 → MayMeasure b j w q m s f a × (accept (cargo b (match_at b j) w m).over (measured b j (match_at b j) (amount_due b (match_at b j) w q m s f a)) ≡ measure b j w q m s f a)
   unfolding step
-  measure_accepted j w q m s f a e h = measure_goes (answered b (Call.Measure j w q m s f a)) (sym e ∙ h)
+  measure_accepted j w q m s f a e h = measure_goes (answered b (Call.Measure j (sample w q m s f a))) (sym e ∙ h)
 
   pub invoice_accepted : (j : ℕ) {n : ℕ} → n ≡ refusal_of (invoice b j).answer → n ≡ 0 → MayInvoice b j × (accept 0 (set_stage (pay b (match_at b j).seller (match_at b j).held) j 0 Stage.Closed) ≡ invoice b j)
   unfolding step

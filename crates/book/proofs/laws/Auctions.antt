@@ -1,13 +1,13 @@
 -- Pay puts to auction the matches of an overseas buyer with any ordinary receipt, and no other: the count of ordinary receipts is above zero where there is
 -- one, and zero where there is none. Assumes nothing.
-use Rattle.std.specs.Prelude.{◌≡◌, Bool, true, not, ◌&&◌, ℕ, ltb, eqb}
+use Rattle.std.specs.Prelude.{◌≡◌, Bool, true, not, ◌&&◌, ℕ, ltb, eqb, Option, Some, None}
 use Rattle.std.proofs.Math.Path.{refl, ap}
 use Rattle.std.proofs.Common.{sym, ◌∙◌, arith}
 use Rattle.std.proofs.Math.Bool.{false}
 use Rattle.std.proofs.Math.Seq.{get_or-set_same}
 use borrow.Author.Tests.{eqb-true, eq-eqb, lt-ltb, not-true}
 use Rattle.coal.specs.Choice.{pick}
-use Rattle.book.specs.Types.{ReceiptState, Stage, Receipt, Book, Answer, Outcome, Fault}
+use Rattle.book.specs.Types.{ReceiptState, Stage, Receipt, Book, Answer, Outcome}
 use Rattle.book.specs.Counting.{tally}
 use Rattle.book.specs.Rows.{blank_match, is_frozen_for, is_ordinary_for, with_held}
 use Rattle.book.specs.Tables.{account_at, receipt_at, match_at, charge, ordinary_at, ordinary_receipts}
@@ -37,9 +37,9 @@ not_ordinary j ReceiptState.Struck bonded h = refl
 
 -- ---- the stage
 
-faultless_is : (x : Fault) → is_faultless x ≡ true → x ≡ Fault.Faultless
-faultless_is Fault.Faultless e = refl
-faultless_is (Fault.Percent x) e = cc
+faultless_is : (x : Option ℕ) → is_faultless x ≡ true → x ≡ None
+faultless_is None e = refl
+faultless_is (Some x) e = cc
 
 accepted_none : (a : Answer) → is_accepted a ≡ true → refusal_of a ≡ 0
 accepted_none (Answer.Accepted n) e = refl
@@ -52,8 +52,8 @@ module _ (b : Book) (h : Reached b) (j : ℕ) (a : is_accepted (pay_match b j).a
       let g = pay_accepted b j refl (accepted_none (pay_match b j).answer a) in
       let r = (reached_tables h).core.matches in
       let both = and_right (not b.board) _ f in
-      let x : buyer_fault b j ≡ Fault.Faultless = faultless_is _ (and_left (is_faultless (buyer_fault b j)) _ both) in
-      let y : seller_fault b j ≡ Fault.Faultless = faultless_is _ (and_right (is_faultless (buyer_fault b j)) _ both) in
+      let x : buyer_fault b j ≡ None = faultless_is _ (and_left (is_faultless (buyer_fault b j)) _ both) in
+      let y : seller_fault b j ≡ None = faultless_is _ (and_right (is_faultless (buyer_fault b j)) _ both) in
       let t : b.board ≡ false = not-true _ (and_left (not b.board) _ f) in
       ap (λ (o : Outcome). (match_at o.book j).stage) (sym g.1) ∙ rw (x, y, get_or-set_same b.matches j (with_held (match_at b j) (value b (match_at b j)) (paid_stage b j (match_at b j))) blank_match (omega (arith, g.0.there, r.size, r.few)), t)
 

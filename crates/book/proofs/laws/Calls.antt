@@ -1,10 +1,10 @@
 -- The opening and the calls that neither pair nor settle keep the tables sound: one short lemma for each accepted call. Assumes nothing.
-use Rattle.std.specs.Prelude.{◌≡◌, refl, ◌≢◌, Bool, true, false, [], ◌∷◌, ℕ, ◌+◌, ◌≤◌, ◌<◌, eqb, pos, neg_ℤ, length}
+use Rattle.std.specs.Prelude.{◌≡◌, refl, ◌≢◌, Bool, true, false, [], ◌∷◌, ℕ, ◌+◌, ◌≤◌, ◌<◌, eqb, pos, neg_ℤ, length, Option, Some, None}
 use Rattle.std.proofs.Common.{sym, arith, eqb-true, ltb-false, get_or-set_other}
 use Rattle.std.proofs.lemmas.Bool.{eqb-false}
 use Rattle.coal.specs.Choice.{pick}
 use Rattle.std.proofs.lemmas.List.{length-replicate}
-use Rattle.book.specs.Types.{Side, Heat, Offer, ReceiptState, Lots, Account, Book}
+use Rattle.book.specs.Types.{Side, ReceiptState, Lots, Account, Book}
 use Rattle.book.specs.Rows.{blank_account, blank_receipt, blank_match, is_short, short_units, with_heat, with_offer, with_state, lots_on, needs_fifth, units_on}
 use Rattle.book.specs.Tables.{account_at, receipt_at, add_account, add_receipt, put_account, put_receipt, with_day, with_deposited, pay, charge}
 use Rattle.book.specs.Opening.{fresh, opening}
@@ -104,10 +104,10 @@ on_short_offer a u day r = record {
   offered_some = r.offered_some;
 }
 
-heat_sound : {day : ℕ} (a : Account) (x : ℕ) → 4_300 ≤ x → x ≤ 10_000 → SoundAccount day a → SoundAccount day (with_heat a (Heat.Declared x))
+heat_sound : {day : ℕ} (a : Account) (x : ℕ) → 4_300 ≤ x → x ≤ 10_000 → SoundAccount day a → SoundAccount day (with_heat a (Some x))
 heat_sound a x h g r =
-    let low : (y : ℕ) → Heat.Declared x ≡ Heat.Declared y → 4_300 ≤ y = λ y e. let q : x ≡ y = cc in omega arith in
-    let high : (y : ℕ) → Heat.Declared x ≡ Heat.Declared y → y ≤ 10_000 = λ y e. let q : x ≡ y = cc in omega arith in
+    let low : (y : ℕ) → Some x ≡ Some y → 4_300 ≤ y = λ y e. let q : x ≡ y = cc in omega arith in
+    let high : (y : ℕ) → Some x ≡ Some y → y ≤ 10_000 = λ y e. let q : x ≡ y = cc in omega arith in
     search
 
 module _ {b : Book} (r : SoundTables b) where
@@ -158,21 +158,21 @@ module _ {b : Book} (r : SoundTables b) where
   pub strike_tables : {owner i : ℕ} → MayStrike b owner i → SoundTables (put_receipt b i (with_state (receipt_at b i) ReceiptState.Struck))
   strike_tables {i = i} g = tables_receipts _ _ (receipts_put i (with_state (receipt_at b i) ReceiptState.Struck) g.there (r.core.receipts.rows i g.there).owner_there refl r.core.receipts) r
 
-  pub declare_tables : {k h : ℕ} → MayDeclare b k h → SoundTables (put_account b k (with_heat (account_at b k) (Heat.Declared h)))
+  pub declare_tables : {k h : ℕ} → MayDeclare b k h → SoundTables (put_account b k (with_heat (account_at b k) (Some h)))
   declare_tables {k} {h} g =
       let o = r.offers k g.there in
-      tables_put k (with_heat (account_at b k) (Heat.Declared h)) r (heat_sound (account_at b k) h g.low g.high (r.core.accounts.rows k g.there)) (search)
+      tables_put k (with_heat (account_at b k) (Some h)) r (heat_sound (account_at b k) h g.low g.high (r.core.accounts.rows k g.there)) (search)
 
   -- another offer of an account
-  offer_put : (k : ℕ) (o : Offer) → k < b.account_count → SoundOffer (with_offer (account_at b k) o) → SoundTables (put_account b k (with_offer (account_at b k) o))
+  offer_put : (k : ℕ) (o : Option ℕ) → k < b.account_count → SoundOffer (with_offer (account_at b k) o) → SoundTables (put_account b k (with_offer (account_at b k) o))
   offer_put k o h s = let a = r.core.accounts.rows k h in tables_put k (with_offer (account_at b k) o) r (search) s
 
-  pub offer_tables : {seller u : ℕ} → MayOffer b seller u → SoundTables (put_account b seller (with_offer (account_at b seller) (Offer.Units u)))
+  pub offer_tables : {seller u : ℕ} → MayOffer b seller u → SoundTables (put_account b seller (with_offer (account_at b seller) (Some u)))
   offer_tables {seller} {u} g =
-      offer_put seller (Offer.Units u) g.there (record { offered = λ x e. let q : u ≡ x = cc in omega (arith, g.short); offered_some = λ x e. let q : u ≡ x = cc in omega (arith, g.some) })
+      offer_put seller (Some u) g.there (record { offered = λ x e. let q : u ≡ x = cc in omega (arith, g.short); offered_some = λ x e. let q : u ≡ x = cc in omega (arith, g.some) })
 
   pub retract_tables : {seller : ℕ} → MayRetract b seller → SoundTables (end_offer b seller)
-  retract_tables {seller} g = offer_put seller Offer.Missing g.there (no_offer (with_offer (account_at b seller) Offer.Missing) refl)
+  retract_tables {seller} g = offer_put seller None g.there (no_offer (with_offer (account_at b seller) None) refl)
 
   -- a day later
   lots_later : {day n : ℕ} {l : Lots} → SoundLots day n l → SoundLots (day + 1) n l

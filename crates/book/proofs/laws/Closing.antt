@@ -1,6 +1,6 @@
 -- The three passes of Close and the end of the offers: whatever every proper pairing keeps, the passes keep, and they make at most 125 matches.
 -- Assumes nothing.
-use Rattle.std.specs.Prelude.{◌≡◌, Bool, not, ◌&&◌, ℕ, zero, suc, ◌+◌, ◌-◌, ◌*◌, ◌≤◌, ◌<◌, min, get_or}
+use Rattle.std.specs.Prelude.{◌≡◌, Bool, not, ◌&&◌, ℕ, zero, suc, ◌+◌, ◌-◌, ◌*◌, ◌≤◌, ◌<◌, min, get_or, Option, Some, None}
 use Rattle.std.proofs.Math.Path.{refl, ap}
 use Rattle.std.proofs.Common.{sym, ◌∙◌, length-set}
 use Rattle.std.proofs.Math.Bool.{true, false}
@@ -10,7 +10,7 @@ use Rattle.std.proofs.Math.Dec.{eqb, ltb}
 use Rattle.std.proofs.Math.ListN.{length}
 use borrow.Author.Tests.{ltb-true, ltb-false, eqb-true, lt-ltb, le-ltb}
 use Rattle.coal.specs.Choice.{pick}
-use Rattle.book.specs.Types.{Side, Offer, Lot, Account, Book, Found, Listed}
+use Rattle.book.specs.Types.{Side, Lot, Account, Book, Listed}
 use Rattle.book.specs.Counting.{lowest, those, tally, one_if}
 use Rattle.book.specs.Rows.{blank_account, lots_of, is_long, is_short, any_class, bonded_only, with_offer, units_off}
 use Rattle.book.specs.Tables.{account_at}
@@ -23,7 +23,7 @@ use Rattle.book.proofs.laws.Pairing.{Pairable, long_side, short_side, pairable, 
 use Rattle.book.proofs.laws.Walking.{All, all_map, all_of, sum_of, left_of, use_up_left, use_up_length, Member, Listing, Passed, walk_keeps}
 use Rattle.book.proofs.laws.Listing.{those_all, those_length, listed, listed_length, listed_left, listed_climbing, lots_all, lots_counted, lots_few}
 use Rattle.book.specs.Joining.{join_lots}
-use Rattle.book.proofs.laws.Joining.{joins_all, Some, joins_left, joins_length, joined_walked}
+use Rattle.book.proofs.laws.Joining.{joins_all, SomeLeft, joins_left, joins_length, joined_walked}
 use Rattle.book.proofs.laws.Joining as Joining
 
 -- ---- who is listed
@@ -78,7 +78,7 @@ module _ (b : Book) where
     unfolding bonded_sellers
     first_pairs =
         joined_walked (overseas_lots b) (bonded_sellers b)
-        (all_map (Member b.account_count) Some (overseas_lots b) (λ x h. h.some) lots_members)
+        (all_map (Member b.account_count) SomeLeft (overseas_lots b) (λ x h. h.some) lots_members)
         (listed_climbing (bonded_offer b) is_offering b.account_count 0)
 
     first_listing : Listing b joined_lots (bonded_sellers b)
@@ -173,7 +173,7 @@ busy_less {b} {e} {buyer} {seller} {u} p q r x y =
 
 -- ---- the passes
 
-lowest_cases : (Q : Found → Type 0) (p : ℕ → Bool) (n i : ℕ) → ((l : ℕ) → l < i + n → p l ≡ true → Q (Found.At l)) → Q Found.Nothing → Q (lowest n i p)
+lowest_cases : (Q : Option ℕ → Type 0) (p : ℕ → Bool) (n i : ℕ) → ((l : ℕ) → l < i + n → p l ≡ true → Q (Some l)) → Q None → Q (lowest n i p)
 unfolding lowest
 lowest_cases Q p zero i h g = g
 lowest_cases Q p (suc n) i h g =
@@ -292,7 +292,7 @@ module _ (P : Book → Type 0) (keep : (b : Book) (c : Bool) (x y u : ℕ) → C
   unfolding second_turn equal_seller
   second_one n low t m i e h s =
       by_pick (Second n low t) (is_buyer e i)
-      (λ q. lowest_cases (λ (f : Found). Second n low t (pair_whole e i f)) (λ l. is_seller e l && eqb (account_at e l).units (account_at e i).units) e.account_count 0
+      (λ q. lowest_cases (λ (f : Option ℕ). Second n low t (pair_whole e i f)) (λ l. is_seller e l && eqb (account_at e l).units (account_at e i).units) e.account_count 0
       (λ l g z.
       let r = s.core in
       let u = (account_at e i).units in
@@ -354,16 +354,16 @@ module _ (P : Book → Type 0) (keep : (b : Book) (c : Bool) (x y u : ℕ) → C
 pub record Lapsed (n : ℕ) (l m : List Account) : Type 0 where
   pub size : length m ≡ length l
   pub rows : (k : ℕ) → get_or m k blank_account ≡ with_offer (get_or l k blank_account) (get_or m k blank_account).offer
-  pub ended : (k : ℕ) → k < n → (get_or m k blank_account).offer ≡ Offer.Missing
+  pub ended : (k : ℕ) → k < n → (get_or m k blank_account).offer ≡ None
 
 lapse_one : (l : List Account) (i : ℕ) (m : List Account) → i < length l → Lapsed i l m → Lapsed (i + 1) l (lapse_turn i m)
 unfolding lapse_turn
 lapse_one l i m h s =
-    let a = with_offer (get_or m i blank_account) Offer.Missing in
+    let a = with_offer (get_or m i blank_account) None in
     record {
       size = simp length-set s.size;
-      rows = λ k. at_set (λ (x : Account). x ≡ with_offer (get_or l k blank_account) x.offer) m i k a blank_account (λ q. rw q (ap (λ (x : Account). with_offer x Offer.Missing) (s.rows i))) (s.rows k);
-      ended = rows_add (λ (x : Account). x.offer ≡ Offer.Missing) m i a blank_account (omega (arith, s.size)) s.ended refl;
+      rows = λ k. at_set (λ (x : Account). x ≡ with_offer (get_or l k blank_account) x.offer) m i k a blank_account (λ q. rw q (ap (λ (x : Account). with_offer x None) (s.rows i))) (s.rows k);
+      ended = rows_add (λ (x : Account). x.offer ≡ None) m i a blank_account (omega (arith, s.size)) s.ended refl;
     }
 
 -- the offers lapse, and the accounts are else as they were; all else is so by computation

@@ -9,11 +9,11 @@ use native.Mathlib.Omega.{arith}
 use Rattle.std.proofs.Math.Dec.{ltb}
 use borrow.Author.Tests.{eqb-true, eqb-false, ltb-true, ltb-false, ne_eqb}
 use Rattle.coal.specs.Choice.{pick}
-use Rattle.book.specs.Types.{ReceiptState, Stage, Receipt, Match, Freezing}
+use Rattle.book.specs.Types.{ReceiptState, Stage, Receipt, Match}
 use Rattle.book.specs.Counting.{iter, tally, one_if}
 use Rattle.book.specs.Rows.{blank_receipt, blank_match, is_free, is_free_of, is_frozen_for, frozen_for}
 use Rattle.book.specs.Tables.{free_at, frozen_at}
-use Rattle.book.specs.Pairing.{freeze_turn}
+use Rattle.book.specs.Pairing.{freeze_turn, Freezing}
 use Rattle.book.proofs.laws.Counting.{by_pick, by_eq, and_left, and_right, iter_keeps, one_most, tally_last, tally_zero, tally_most}
 use Rattle.book.proofs.laws.Sound.{SoundReceipt, ReceiptTable}
 use Rattle.book.proofs.laws.Tables.{NoneFrozen}

@@ -30,11 +30,11 @@ module _ (P : Listed → Type 0) (both : (x y : Listed) → P x → P y → P (r
   joins_all (x ∷ l) h = join_all x (join_lots l) h.0 (joins_all l h.1)
 
 -- something is left to it
-abbrev pub Some : Listed → Type 0
-Some x = 0 < x.left
+abbrev pub SomeLeft : Listed → Type 0
+SomeLeft x = 0 < x.left
 
-joins_some : (l : List Listed) → All Some l → All Some (join_lots l)
-joins_some l h = joins_all Some (λ x y p q. omega arith) l h
+joins_some : (l : List Listed) → All SomeLeft l → All SomeLeft (join_lots l)
+joins_some l h = joins_all SomeLeft (λ x y p q. omega arith) l h
 
 -- what is left to an account
 join_left : (k : ℕ) (x : Listed) (l : List Listed) → left_of k (join_lot x l) ≡ left_of k (x ∷ l)
@@ -124,7 +124,7 @@ module _ (n : ℕ) (x y : Listed) (xs : List Listed) (h : y.left ≤ x.left) whe
       (λ o. rest_is l (less v x ∷ l) l q e (λ z. refl) (λ z. cc))
       (λ o. rest_is l (less v x ∷ l) (less v x ∷ l) q e (λ z. absurd (eqb-false _ _ o z)) (λ z. refl))
 
-  seller_turn : (j ys : List Listed) → join_lots xs ≡ j → All Some j → of_two x y v ∷ walk n (join_lots (use_up v x xs)) ys ≡ walk (suc n) (join_lot x j) (y ∷ ys)
+  seller_turn : (j ys : List Listed) → join_lots xs ≡ j → All SomeLeft j → of_two x y v ∷ walk n (join_lots (use_up v x xs)) ys ≡ walk (suc n) (join_lot x j) (y ∷ ys)
   unfolding join_lot
   seller_turn [] ys q g = rw (seller_used n x y [] ys h, used_is [] q refl) refl
   seller_turn (z ∷ j) ys q g = go (eqb x.account z.account) refl
@@ -200,7 +200,7 @@ unfolding join_lots
 joins_length [] = omega arith
 joins_length (x ∷ l) = omega (arith, joins_length l, join_length x (join_lots l))
 
-joined_walk : (n : ℕ) (xs ys : List Listed) → length xs + length ys ≤ n → All Some xs → Climbing ys → joined (walk n xs ys) ≡ walk n (join_lots xs) ys
+joined_walk : (n : ℕ) (xs ys : List Listed) → length xs + length ys ≤ n → All SomeLeft xs → Climbing ys → joined (walk n xs ys) ≡ walk n (join_lots xs) ys
 unfolding joined join_lots
 joined_walk zero [] ys h s c = rw (no_buyers zero ys) refl
 joined_walk zero (x ∷ xs) ys h s c = absurd (omega arith)
@@ -209,7 +209,7 @@ joined_walk (suc n) (x ∷ xs) [] h s c = rw (no_sellers (suc n) (x ∷ xs), no_
 joined_walk (suc n) (x ∷ xs) (y ∷ ys) h s c =
     let v = y.left in
     go (ltb x.left v) refl (joined_walk n xs (less x.left y ∷ ys) (omega arith) s.1 c)
-    (joined_walk n (use_up v x xs) ys (omega (arith, use_up_length v x xs)) (use_up_all v x xs Some (λ g. g) s.1) c.1)
+    (joined_walk n (use_up v x xs) ys (omega (arith, use_up_length v x xs)) (use_up_all v x xs SomeLeft (λ g. g) s.1) c.1)
   where
     go : (t : Bool) → ltb x.left y.left ≡ t → joined (walk n xs (less x.left y ∷ ys)) ≡ walk n (join_lots xs) (less x.left y ∷ ys)
         → joined (walk n (use_up y.left x xs) ys) ≡ walk n (join_lots (use_up y.left x xs)) ys → joined (walk (suc n) (x ∷ xs) (y ∷ ys)) ≡ walk (suc n) (join_lot x (join_lots xs)) (y ∷ ys)
@@ -229,7 +229,7 @@ walk_enough (suc d) xs ys =
     rw e (walk_more (d + n) xs ys (omega arith) ∙ walk_enough d xs ys)
 
 -- the pairs of a walk, joined, are those of the walk over joined lots
-pub joined_walked : (xs ys : List Listed) → All Some xs → Climbing ys → joined (walked xs ys) ≡ walked (join_lots xs) ys
+pub joined_walked : (xs ys : List Listed) → All SomeLeft xs → Climbing ys → joined (walked xs ys) ≡ walked (join_lots xs) ys
 joined_walked xs ys s c =
     let n = length xs + length ys in
     let m = length (join_lots xs) + length ys in

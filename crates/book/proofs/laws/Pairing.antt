@@ -1,10 +1,10 @@
 -- A proper pairing: it keeps what holds of the tables, but for the offers, and what it leaves of accounts, matches and receipts.
 -- Assumes nothing.
-use Rattle.std.specs.Prelude.{◌≡◌, refl, ◌≢◌, Bool, true, false, List, ℕ, ◌+◌, ◌-◌, ◌≤◌, ◌<◌, eqb, get_or, set}
+use Rattle.std.specs.Prelude.{◌≡◌, refl, ◌≢◌, Bool, true, false, List, ℕ, ◌+◌, ◌-◌, ◌≤◌, ◌<◌, eqb, get_or, set, None}
 use Rattle.std.proofs.Common.{sym, ap, subst, arith, length-set, get_or-set_same, get_or-set_other, eqb-true}
 use Rattle.std.proofs.lemmas.Bool.{eqb-false}
 use Rattle.coal.specs.Choice.{pick}
-use Rattle.book.specs.Types.{Side, Heat, Stage, Lots, Account, Receipt, Match, Book}
+use Rattle.book.specs.Types.{Side, Stage, Lots, Account, Receipt, Match, Book}
 use Rattle.book.specs.Counting.{sum}
 use Rattle.book.specs.Rows.{blank_account, blank_receipt, blank_match, with_position, lots_off, units_off, is_long, is_short, long_units, short_units, frozen_for, is_paid_for}
 use Rattle.book.specs.Tables.{account_at, receipt_at, match_at, add_match, with_receipts}
@@ -106,7 +106,7 @@ new_sound b days buyer seller u d p r =
     let s = r.accounts.rows seller p.seller_there in
     let few : u ≤ 1_000 = omega (arith, s.few, p.seller_has) in
     let none : 0 ≤ 22_000_000_000_000 = omega arith in
-    search (unpaid {A = (account_at b seller).heat ≡ Heat.Missing → ⊥}, unpaid, not_paid_for, pairable_two, arith)
+    search (unpaid {A = (account_at b seller).heat ≡ None → ⊥}, unpaid, not_paid_for, pairable_two, arith)
   where
     unpaid : {A : Type 0} → Stage.Paired ≡ Stage.Prepaid → A
     unpaid e = impossible (cc)

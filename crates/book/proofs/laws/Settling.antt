@@ -1,7 +1,7 @@
 -- Pay, Measure, Invoice, Terminate, Hand over and Auction, where they are accepted, are each one settlement of a match: entries are posted, the fund may gain,
 -- the match gets a stage and money held, and receipts stay frozen for it only where that stage has them. All laws of these calls are read from
 -- that. Assumes nothing.
-use Rattle.std.specs.Prelude.{◌≡◌, ◌≢◌, Bool, not, ℕ, ◌+◌, ◌-◌, ◌*◌, ◌≤◌, ◌<◌, ltb, eqb, neg_ℤ, ◌+ℤ◌, length, get_or, set}
+use Rattle.std.specs.Prelude.{◌≡◌, ◌≢◌, Bool, not, ℕ, ◌+◌, ◌-◌, ◌*◌, ◌≤◌, ◌<◌, ltb, eqb, neg_ℤ, ◌+ℤ◌, length, get_or, set, Option, Some, None}
 use Rattle.std.proofs.Math.Path.{refl, ap, subst}
 use Rattle.std.proofs.Common.{sym, ◌∙◌, arith, eqb-true, ltb-false, ne_eqb}
 use Rattle.std.proofs.Math.Bool.{true, false}
@@ -13,7 +13,7 @@ use Rattle.coal.specs.Choice.{pick}
 use Rattle.coal.proofs.laws.Bounds.{percent_down_most}
 use Rattle.whole.specs.Ring.{ring}
 use Rattle.whole.specs.Whole.{pos_minus, natAbs_neg}
-use Rattle.book.specs.Types.{Heat, ReceiptState, Stage, Account, Receipt, Match, Book, Fault}
+use Rattle.book.specs.Types.{ReceiptState, Stage, Account, Receipt, Match, Book}
 use Rattle.book.specs.Counting.{iter, sum, one_if}
 use Rattle.book.specs.Rows.{blank_receipt, blank_match, is_frozen, is_frozen_for, has_frozen, is_paid_for, with_held, with_state}
 use Rattle.book.specs.Tables.{account_at, match_at, put_match, with_accounts, with_receipts, with_fund, pay, charge, frozen_receipts}
@@ -79,7 +79,7 @@ settlement_tables {b} s r =
 -- what a match may hold at a stage
 abbrev Holding : ℕ → Bool → Match → ℕ → Stage → Type 0
 Holding tonnes board m x Stage.Paired = x ≡ 0
-Holding tonnes board m x Stage.Prepaid = (x ≡ m.units * m.price * tonnes) × (board ≡ true) × (m.heat ≡ Heat.Missing → ⊥)
+Holding tonnes board m x Stage.Prepaid = (x ≡ m.units * m.price * tonnes) × (board ≡ true) × (m.heat ≡ None → ⊥)
 Holding tonnes board m x Stage.Held = Unit {0}
 Holding tonnes board m x Stage.Closed = x ≡ 0
 Holding tonnes board m x Stage.Ended = x ≡ 0
@@ -101,7 +101,7 @@ staged {tonnes = tonnes} {board} {m} x s h g r =
     let at : (t : Stage) → s ≡ t → Holding tonnes board m x t = λ t e. subst (Holding tonnes board m x) e g in
     let value : s ≡ Stage.Prepaid → x ≡ m.units * m.price * tonnes = λ e. (at Stage.Prepaid e).0 in
     let kind : s ≡ Stage.Prepaid → board ≡ true = λ e. (at Stage.Prepaid e).1 in
-    let heat : s ≡ Stage.Prepaid → m.heat ≡ Heat.Missing → ⊥ = λ e. (at Stage.Prepaid e).2 in
+    let heat : s ≡ Stage.Prepaid → m.heat ≡ None → ⊥ = λ e. (at Stage.Prepaid e).2 in
     let worth : is_paid_for s ≡ true → x ≡ m.units * m.price * tonnes = λ e. (paid_for tonnes board m x s g e).0 in
     let not-board : is_paid_for s ≡ true → board ≡ false = λ e. (paid_for tonnes board m x s g e).1 in
     search (at Stage.Paired, at Stage.Closed, at Stage.Ended)
@@ -162,11 +162,11 @@ module _ (new : Receipt → Receipt) (j : ℕ) where
 -- ---- penalties
 
 -- no fault, or one of at most 100 percent
-data Few : Fault → Type 0 where
-  faultless : Few Fault.Faultless
-  percent : {x : ℕ} → x ≤ 100 → Few (Fault.Percent x)
+data Few : Option ℕ → Type 0 where
+  faultless : Few None
+  percent : {x : ℕ} → x ≤ 100 → Few (Some x)
 
-few_if : (t : Bool) {x y : Fault} → Few x → Few y → Few (pick t x y)
+few_if : (t : Bool) {x y : Option ℕ} → Few x → Few y → Few (pick t x y)
 few_if true f g = f
 few_if false f g = g
 
@@ -219,7 +219,7 @@ module _ (b : Book) (v k i : ℕ) (p : k < b.account_count) (q : i < b.account_c
   }
 
 -- of book b, with its accounts in table l
-fined : (b : Book) (l : List Account) (m : Match) → m.buyer < b.account_count → m.seller < b.account_count → b.account_count ≤ length l → {x y : Fault} → Few x → Few y
+fined : (b : Book) (l : List Account) (m : Match) → m.buyer < b.account_count → m.seller < b.account_count → b.account_count ≤ length l → {x y : Option ℕ} → Few x → Few y
     → Fined (with_accounts b l b.account_count) (value b m) (penalty_entries b m x y) (punish (with_accounts b l b.account_count) m x y)
 unfolding punish penalty_entries penalty value all_entries weight
 fined b l m p q s faultless faultless = record { gained = 0; same = refl; posted = posted_none l; fund = omega arith; within = tt; small = omega arith; gained_small = omega arith; even = refl }
@@ -230,20 +230,20 @@ fined b l m p q s (percent {x = x} f) (percent {x = y} g) = both_fined _ (value 
 -- ---- the calls
 
 -- in a board book a seller without fault has declared a heat
-faultless_heat : (b : Book) (j : ℕ) → seller_fault b j ≡ Fault.Faultless → b.board ≡ true → (match_at b j).heat ≡ Heat.Missing → ⊥
+faultless_heat : (b : Book) (j : ℕ) → seller_fault b j ≡ None → b.board ≡ true → (match_at b j).heat ≡ None → ⊥
 unfolding seller_fault
 faultless_heat b j e q h = go (account_at b (match_at b j).seller).fit (rw (q, h) at e)
   where
-    go : (t : Bool) → pick (not t) (Fault.Percent 10) (Fault.Percent b.rate) ≡ Fault.Faultless → ⊥
+    go : (t : Bool) → pick (not t) (Some 10) (Some b.rate) ≡ None → ⊥
     go true f = impossible (cc)
     go false f = impossible (cc)
 
 -- in a receipts book a seller without fault has as many receipts frozen as the match has units
-faultless_frozen : (b : Book) (j : ℕ) → seller_fault b j ≡ Fault.Faultless → b.board ≡ false → (match_at b j).units ≤ frozen_of b.receipt_count b.receipts j
+faultless_frozen : (b : Book) (j : ℕ) → seller_fault b j ≡ None → b.board ≡ false → (match_at b j).units ≤ frozen_of b.receipt_count b.receipts j
 unfolding seller_fault frozen_receipts
 faultless_frozen b j e q = go (account_at b (match_at b j).seller).fit (ltb (frozen_of b.receipt_count b.receipts j) (match_at b j).units) refl (rw q at e)
   where
-    go : (s t : Bool) → ltb (frozen_of b.receipt_count b.receipts j) (match_at b j).units ≡ t → pick (not s) (Fault.Percent 10) (pick t (Fault.Percent b.rate) Fault.Faultless) ≡ Fault.Faultless
+    go : (s t : Bool) → ltb (frozen_of b.receipt_count b.receipts j) (match_at b j).units ≡ t → pick (not s) (Some 10) (pick t (Some b.rate) None) ≡ None
         → (match_at b j).units ≤ frozen_of b.receipt_count b.receipts j
     go true true h f = impossible (cc)
     go true false h f = ltb-false _ _ h
@@ -327,7 +327,7 @@ module _ (b : Book) (r : SoundTables b) (j : ℕ) (p : j < b.match_count) where
       }
 
   -- "buyer gets V back; party or parties at fault pay R% of V as above; ended."
-  returned_settles : (match_at b j).stage ≡ Stage.Prepaid → {x y : Fault} → Few x → Few y
+  returned_settles : (match_at b j).stage ≡ Stage.Prepaid → {x y : Option ℕ} → Few x → Few y
       → Settlement b (plus (match_at b j).buyer (value b (match_at b j)) ∷ penalty_entries b (match_at b j) x y) (set_stage (punish (pay b (match_at b j).buyer (value b (match_at b j))) (match_at b j) x y) j 0 Stage.Ended)
   unfolding all_entries weight pay value
   returned_settles s {x} {y} f g =
@@ -363,7 +363,7 @@ module _ (b : Book) (r : SoundTables b) (j : ℕ) (p : j < b.match_count) where
       returned_settles s (few_if (not (eqb party 1)) h faultless) (few_if (not (eqb party 0)) h faultless)
 
   -- "ends the match on a fault": "Then the match is ended and its receipts are free again."
-  ended_settles : (match_at b j).stage ≡ Stage.Paired → {x y : Fault} → Few x → Few y → Settlement b (penalty_entries b (match_at b j) x y) (fault_ended b j (match_at b j) x y)
+  ended_settles : (match_at b j).stage ≡ Stage.Paired → {x y : Option ℕ} → Few x → Few y → Settlement b (penalty_entries b (match_at b j) x y) (fault_ended b j (match_at b j) x y)
   unfolding fault_ended free_again release_turn
   ended_settles s {x} {y} f g =
       let m = match_at b j in
@@ -423,7 +423,7 @@ module _ (b : Book) (r : SoundTables b) (j : ℕ) (p : j < b.match_count) where
       }
 
   -- "In a receipts book it gives the new stage 5, funded", or "stage 6, awaiting auction". "A board match goes from Pay to prepaid."
-  no_fault_settles : (match_at b j).stage ≡ Stage.Paired → seller_fault b j ≡ Fault.Faultless → (t a : Bool) → b.board ≡ t
+  no_fault_settles : (match_at b j).stage ≡ Stage.Paired → seller_fault b j ≡ None → (t a : Bool) → b.board ≡ t
       → Settlement b (minus (match_at b j).buyer (value b (match_at b j)) ∷ []) (into_held b j (match_at b j) (value b (match_at b j)) (pick t Stage.Prepaid (pick a Stage.Awaiting Stage.Funded)))
   unfolding value
   no_fault_settles s f true a e =
@@ -435,7 +435,7 @@ module _ (b : Book) (r : SoundTables b) (j : ℕ) (p : j < b.match_count) where
   no_fault_settles s f false false e =
       into_held_settles s Stage.Funded (omega arith) (refl, e) (receipts_restaged j _ refl refl refl r.core.receipts) (λ z. faultless_frozen b j f e)
 
-  paid_settles : (match_at b j).stage ≡ Stage.Paired → {x y : Fault} → Few x → Few y → seller_fault b j ≡ y → Settlement b (pay_entries b (match_at b j) x y) (paid b j (match_at b j) x y)
+  paid_settles : (match_at b j).stage ≡ Stage.Paired → {x y : Option ℕ} → Few x → Few y → seller_fault b j ≡ y → Settlement b (pay_entries b (match_at b j) x y) (paid b j (match_at b j) x y)
   unfolding paid paid_stage pay_entries
   paid_settles s faultless faultless e = no_fault_settles s e b.board (to_auction b j (match_at b j)) refl
   paid_settles s (percent f) faultless e = ended_settles s (percent f) faultless

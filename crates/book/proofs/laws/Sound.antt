@@ -1,7 +1,7 @@
 -- What holds of every reached book, in parts. Each part names only what it reads of a book, so that a call that leaves that leaves the
 -- part. Assumes nothing.
-use Rattle.std.specs.Prelude.{◌≡◌, Bool, true, false, List, ℕ, ◌+◌, ◌*◌, ◌≤◌, ◌<◌, length, get_or, nat_abs}
-use Rattle.book.specs.Types.{Side, Heat, Offer, ReceiptState, Stage, Lots, Account, Receipt, Match, Book}
+use Rattle.std.specs.Prelude.{◌≡◌, Bool, true, false, List, ℕ, ◌+◌, ◌*◌, ◌≤◌, ◌<◌, length, get_or, nat_abs, Some, None}
+use Rattle.book.specs.Types.{Side, ReceiptState, Stage, Lots, Account, Receipt, Match, Book}
 use Rattle.book.specs.Counting.{tally}
 use Rattle.book.specs.Rows.{blank_account, blank_receipt, blank_match, short_units, has_frozen, is_paid_for}
 use Rattle.book.specs.Tables.{account_at, frozen_at}
@@ -34,13 +34,13 @@ pub record SoundAccount (day : ℕ) (a : Account) : Type 0 where
   pub long_some : a.side ≡ Side.Long → 0 < a.units
   pub short_some : a.side ≡ Side.Short → 0 < a.units
   pub in_lots : SoundLots day a.units a.lots
-  pub heat_low : (h : ℕ) → a.heat ≡ Heat.Declared h → 4_300 ≤ h
-  pub heat_high : (h : ℕ) → a.heat ≡ Heat.Declared h → h ≤ 10_000
+  pub heat_low : (h : ℕ) → a.heat ≡ Some h → 4_300 ≤ h
+  pub heat_high : (h : ℕ) → a.heat ≡ Some h → h ≤ 10_000
 
 -- the offer of an account; not so within Take and Close, which pair before the offer ends
 pub record SoundOffer (a : Account) : Type 0 where
-  pub offered : (u : ℕ) → a.offer ≡ Offer.Units u → u ≤ short_units a
-  pub offered_some : (u : ℕ) → a.offer ≡ Offer.Units u → 0 < u
+  pub offered : (u : ℕ) → a.offer ≡ Some u → u ≤ short_units a
+  pub offered_some : (u : ℕ) → a.offer ≡ Some u → 0 < u
 
 -- a match of a book with so many accounts, at this day, of T tonnes, of this kind
 pub record SoundMatch (accounts day tonnes : ℕ) (board : Bool) (m : Match) : Type 0 where
@@ -53,13 +53,13 @@ pub record SoundMatch (accounts day tonnes : ℕ) (board : Bool) (m : Match) : T
   pub price_high : m.price ≤ 1_000_000
   pub price_low : 0 < m.price
   pub due_soon : m.due ≤ day + 2
-  pub heat_low : (h : ℕ) → m.heat ≡ Heat.Declared h → 4_300 ≤ h
-  pub heat_high : (h : ℕ) → m.heat ≡ Heat.Declared h → h ≤ 10_000
+  pub heat_low : (h : ℕ) → m.heat ≡ Some h → 4_300 ≤ h
+  pub heat_high : (h : ℕ) → m.heat ≡ Some h → h ≤ 10_000
   -- what is held at a stage: nothing, V in a board book with its heat declared, V in a receipts book, or a rest
   pub paired_none : m.stage ≡ Stage.Paired → m.held ≡ 0
   pub prepaid_value : m.stage ≡ Stage.Prepaid → m.held ≡ m.units * m.price * tonnes
   pub prepaid_board : m.stage ≡ Stage.Prepaid → board ≡ true
-  pub prepaid_heat : m.stage ≡ Stage.Prepaid → m.heat ≡ Heat.Missing → ⊥
+  pub prepaid_heat : m.stage ≡ Stage.Prepaid → m.heat ≡ None → ⊥
   pub closed_none : m.stage ≡ Stage.Closed → m.held ≡ 0
   pub ended_none : m.stage ≡ Stage.Ended → m.held ≡ 0
   pub paid_for_value : is_paid_for m.stage ≡ true → m.held ≡ m.units * m.price * tonnes

@@ -1,8 +1,8 @@
 -- How one change of a book changes what holds of its tables: of each table, and of all. Assumes nothing.
-use Rattle.std.specs.Prelude.{◌≡◌, refl, ◌≢◌, Bool, true, false, List, ℕ, ◌+◌, ◌≤◌, ◌<◌, length, get_or, set}
+use Rattle.std.specs.Prelude.{◌≡◌, refl, ◌≢◌, Bool, true, false, List, ℕ, ◌+◌, ◌≤◌, ◌<◌, length, get_or, set, None}
 use Rattle.std.proofs.Common.{sym, ap, ◌∙◌, arith, length-set, get_or-set_other, ne_eqb}
 use Rattle.std.proofs.lemmas.Bool.{eqb-false}
-use Rattle.book.specs.Types.{Side, Offer, ReceiptState, Lots, Account, Receipt, Match, Book}
+use Rattle.book.specs.Types.{Side, ReceiptState, Lots, Account, Receipt, Match, Book}
 use Rattle.book.specs.Counting.{one_if}
 use Rattle.book.specs.Rows.{blank_account, blank_receipt, blank_match, is_frozen_for, is_frozen, has_frozen, with_position}
 use Rattle.book.specs.Tables.{put_account, with_receipts, frozen_at}
@@ -22,7 +22,7 @@ pub account_placed : {day : ℕ} {a : Account} {s : Side} {u : ℕ} {l : Lots} �
     → SoundLots day u l → SoundAccount day (with_position a s u l)
 account_placed r n f l s d = search
 
-pub no_offer : (a : Account) → a.offer ≡ Offer.Missing → SoundOffer a
+pub no_offer : (a : Account) → a.offer ≡ None → SoundOffer a
 no_offer a e = record { offered = λ u h. impossible (cc); offered_some = λ u h. impossible (cc) }
 
 pub core_put : {b : Book} (k : ℕ) (a : Account) → Core b → SoundAccount b.day a → Core (put_account b k a)

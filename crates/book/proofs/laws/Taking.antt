@@ -1,7 +1,7 @@
 -- Take and Close keep the tables sound: each of their pairings keeps all but the offers, and the offers that do not stand end. Assumes nothing.
-use Rattle.std.specs.Prelude.{◌≡◌, refl, ◌≢◌, false, ℕ, ◌<◌}
+use Rattle.std.specs.Prelude.{◌≡◌, refl, ◌≢◌, false, ℕ, ◌<◌, Some, None}
 use Rattle.std.proofs.Common.{arith, get_or-set_same, get_or-set_other}
-use Rattle.book.specs.Types.{Side, Offer, Account, Book}
+use Rattle.book.specs.Types.{Side, Account, Book}
 use Rattle.book.specs.Rows.{blank_account, short_units, offer_units, with_offer, any_class, units_off}
 use Rattle.book.specs.Tables.{account_at, with_open}
 use Rattle.book.specs.Pairing.{pair}
@@ -18,7 +18,7 @@ use Rattle.book.proofs.laws.Closing.{passes_keep, lapsed, lapse_core}
 long_offer : (a : Account) (u : ℕ) → a.side ≡ Side.Long → SoundOffer a → SoundOffer (units_off a u)
 long_offer a u e r = record { offered = λ x h. absurd (none x h); offered_some = λ x h. absurd (none x h) }
   where
-    none : (x : ℕ) → a.offer ≡ Offer.Units x → ⊥
+    none : (x : ℕ) → a.offer ≡ Some x → ⊥
     none x h = let z : short_units a ≡ 0 = rw e in omega (arith, r.offered x h, r.offered_some x h)
 
 module _ {b : Book} (r : SoundTables b) where
@@ -35,7 +35,7 @@ module _ {b : Book} (r : SoundTables b) where
       let d = pair b any_class 2 buyer seller u in
       let q = pair_core b any_class 2 buyer seller u (omega arith) p r.core in
       let t = q.core.accounts in
-      let a = with_offer (account_at d seller) Offer.Missing in
+      let a = with_offer (account_at d seller) None in
       let n = paired_accounts q in
       let other : (i : ℕ) → i < b.account_count → i ≢ seller → SoundOffer (account_at d i) = λ i h z. by_eq i buyer
       (λ e. rw e (rw (paired_buyer p q r.core) (long_offer (account_at b buyer) u p.buyer_long (r.offers buyer g.buyer_there))))

@@ -1,14 +1,14 @@
 -- Terminate is refused by its number, or the buyer is repaid and the penalties are paid. Assumes nothing.
 use Rattle.std.proofs.Common.{◌≡◌, ℕ, ◌<◌, ◌∙◌}
-use Rattle.book.specs.declared.Book.{Book}
-use Rattle.book.specs.declared.Call.{Call}
+use Rattle.book.specs.declared.tables.Book.{Book}
+use Rattle.book.specs.declared.calls.Call.{Call}
 use Rattle.book.specs.Answers.{refusal_of}
 use Rattle.book.specs.Settlement.{terminate}
 use Rattle.book.specs.Calls.{step}
 use Rattle.book.specs.Lists.{Reached}
 use Rattle.book.proofs.laws.Answered.{refused_is, terminate_accepted}
-use Rattle.rows.specs.Needs.{match_there, calls}
-use Rattle.rows.specs.Places.{place, at_place}
+use Rattle.reached.specs.Needs.{match_there, calls}
+use Rattle.reached.specs.Places.{place, at_place}
 use Rattle.payments.specs.Money.{due_sound}
 use Rattle.measuring.proofs.terminate.Goals as goal
 

@@ -1,6 +1,6 @@
 use Rattle.std.proofs.Common.{sym, ap, ◌∙◌}
-use Rattle.book.specs.declared.Freezing.{Freezing}
-use Rattle.rows.specs.Loops.{one_turned, all_turned}
+use Rattle.book.specs.Pairing.{Freezing}
+use Rattle.reached.specs.Loops.{one_turned, all_turned}
 use Rattle.pairing.specs.Freezing.{turn_freezes, turn_passes, nothing_left}
 use Rattle.pairing.proofs.freeze.Goals as goal
 use Rattle.pairing.proofs.freeze.Goals.{then-is_free_of, else-is_free_of}

@@ -1,6 +1,6 @@
 use Rattle.book.specs.Counting.{iter}
 use Rattle.book.specs.Pairing.{freeze_turn}
-use Rattle.rows.specs.Loops.{Turned}
+use Rattle.reached.specs.Loops.{Turned}
 use Rattle.pairing.proofs.freeze.Given as goal
 
 abbrev pub invariant-loop-i : goal.invariant-loop-i

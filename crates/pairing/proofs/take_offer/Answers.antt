@@ -1,6 +1,6 @@
 use Rattle.std.specs.Prelude.{◌≡◌, ℕ}
 use Rattle.std.proofs.Common.{arith}
-use Rattle.book.specs.declared.Book.{Book}
+use Rattle.book.specs.declared.tables.Book.{Book}
 use Rattle.book.specs.Rows.{offer_units, any_class}
 use Rattle.book.specs.Tables.{account_at}
 use Rattle.book.specs.Answers.{accept, refusal_of}
@@ -8,8 +8,8 @@ use Rattle.book.specs.Pairing.{pair}
 use Rattle.book.specs.Offers.{end_offer, take_offer}
 use Rattle.book.specs.Lists.{Reached}
 use Rattle.book.proofs.laws.Answered.{MayTake, take_accepted}
-use Rattle.rows.specs.Needs.{account_there}
-use Rattle.rows.specs.Places.{place, at_place}
+use Rattle.reached.specs.Needs.{account_there}
+use Rattle.reached.specs.Places.{place, at_place}
 use Rattle.pairing.specs.Take.{offer_small}
 use Rattle.pairing.proofs.take_offer.Goals as goal
 

@@ -2,7 +2,7 @@ use Rattle.std.proofs.Common.{arith}
 use Rattle.std.proofs.lemmas.Grind.{common_steps}
 use Rattle.book.specs.Tables.{free_receipts}
 use Rattle.book.specs.Offers.{take_offer}
-use Rattle.rows.specs.Places.{account_found}
+use Rattle.reached.specs.Places.{account_found}
 use Rattle.pairing.proofs.take_refusal.Goals as goal
 
 pub returns-then-offer_missing : goal.returns-then-offer_missing

@@ -1,7 +1,7 @@
 -- The turns that are left, done to the present table, come to the whole. Assumes nothing.
 use Rattle.book.specs.Counting.{iter}
 use Rattle.book.specs.Settlement.{pass_turn}
-use Rattle.rows.specs.Loops.{Turned}
+use Rattle.reached.specs.Loops.{Turned}
 use Rattle.payments.proofs.pass_receipts.Given as goal
 
 abbrev pub invariant-loop-i : goal.invariant-loop-i

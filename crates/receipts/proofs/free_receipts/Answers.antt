@@ -1,4 +1,4 @@
-use Rattle.rows.specs.Loops.{one_counted, all_counted}
+use Rattle.reached.specs.Loops.{one_counted, all_counted}
 use Rattle.book.specs.Tables.{free_at}
 use Rattle.receipts.proofs.free_receipts.Goals as goal
 

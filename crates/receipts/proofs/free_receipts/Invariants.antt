@@ -1,6 +1,6 @@
 use Rattle.book.specs.Counting.{tally}
 use Rattle.book.specs.Tables.{free_at}
-use Rattle.rows.specs.Loops.{Counted}
+use Rattle.reached.specs.Loops.{Counted}
 use Rattle.receipts.proofs.free_receipts.Given as goal
 
 abbrev pub invariant-loop-i : goal.invariant-loop-i

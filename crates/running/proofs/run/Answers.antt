@@ -1,5 +1,6 @@
+use Rattle.std.specs.Prelude.{Option, ℕ}
 use Rattle.std.proofs.Common.{◌≡◌, refl, sym, ◌∙◌, rules}
-use Rattle.book.specs.declared.Outcome.{Outcome}
+use Rattle.book.specs.Outcomes.{Outcome}
 use Rattle.book.specs.Answers.{refuse}
 use Rattle.book.specs.Calls.{step}
 use Rattle.refusals.specs.Early.{early_is}
@@ -36,7 +37,7 @@ loop-i-preserved c =
       | in-Lodge w ↦ rw (c.in-Run.is, w.in-Lodge.is, w.book-is, w.answer-is) (cc)
       | in-Strike w ↦ rw (c.in-Run.is, w.in-Strike.is, w.book-is, w.answer-is) (cc)
       | in-Declare w ↦ rw (c.in-Run.is, w.in-Declare.is, w.book-is, w.answer-is) (cc)
-      | in-Offer w ↦ rw (c.in-Run.is, w.in-Offer.is, w.book-is, w.answer-is) (cc)
+      | in-Option ℕ w ↦ rw (c.in-Run.is, w.in-Offer.is, w.book-is, w.answer-is) (cc)
       | in-Retract w ↦ rw (c.in-Run.is, w.in-Retract.is, w.book-is, w.answer-is) (cc)
       | in-Take w ↦ rw (c.in-Run.is, w.in-Take.is, w.book-is, w.answer-is) (cc)
       | in-Day w ↦ rw (c.in-Run.is, w.in-Day.is, w.book-is, w.answer-is) (cc)

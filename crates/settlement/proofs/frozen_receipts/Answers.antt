@@ -1,6 +1,6 @@
 -- Each count, with what is left to count, comes to the whole. Assumes nothing.
 use Rattle.book.specs.Tables.{frozen_at, ordinary_at}
-use Rattle.rows.specs.Loops.{one_counted, all_counted}
+use Rattle.reached.specs.Loops.{one_counted, all_counted}
 use Rattle.settlement.proofs.frozen_receipts.Goals as goal
 
 pub loop-i-preserved : goal.loop-i-preserved

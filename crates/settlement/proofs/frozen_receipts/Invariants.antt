@@ -1,7 +1,7 @@
 -- Each count, with what is left to count, comes to the whole. Assumes nothing.
 use Rattle.book.specs.Counting.{tally}
 use Rattle.book.specs.Tables.{frozen_at, ordinary_at}
-use Rattle.rows.specs.Loops.{Counted}
+use Rattle.reached.specs.Loops.{Counted}
 use Rattle.settlement.proofs.frozen_receipts.Given as goal
 
 abbrev pub invariant-loop-i : goal.invariant-loop-i

@@ -1,14 +1,14 @@
 -- Hand over is refused by its number, or the receipts pass and the seller is paid. Assumes nothing.
 use Rattle.std.proofs.Common.{◌≡◌, ℕ, ◌<◌, ◌∙◌}
-use Rattle.book.specs.declared.Book.{Book}
-use Rattle.book.specs.declared.Call.{Call}
+use Rattle.book.specs.declared.tables.Book.{Book}
+use Rattle.book.specs.declared.calls.Call.{Call}
 use Rattle.book.specs.Answers.{refusal_of}
 use Rattle.book.specs.Settlement.{value, hand_over}
 use Rattle.book.specs.Calls.{step}
 use Rattle.book.specs.Lists.{Reached}
 use Rattle.book.proofs.laws.Answered.{refused_is, hand_over_accepted}
-use Rattle.rows.specs.Needs.{match_there, calls}
-use Rattle.rows.specs.Places.{place, at_place}
+use Rattle.reached.specs.Needs.{match_there, calls}
+use Rattle.reached.specs.Places.{place, at_place}
 use Rattle.payments.specs.Money.{due_sound, handing_due}
 use Rattle.settlement.proofs.hand_over.Goals as goal
 

@@ -1,5 +1,5 @@
 -- Pay is refused by its number, or the match is paid or ended. Assumes nothing.
-use Rattle.book.specs.declared.Call.{Call}
+use Rattle.book.specs.declared.calls.Call.{Call}
 use Rattle.book.specs.Calls.{step}
 use Rattle.book.proofs.laws.Answered.{refused_is, pay_accepted}
 use Rattle.settlement.proofs.pay_match.Goals as goal

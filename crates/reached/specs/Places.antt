@@ -2,12 +2,12 @@
 use Rattle.std.specs.Prelude.{◌≡◌, ℕ, ◌<◌, ltb}
 use Rattle.std.proofs.Common.{sym, ap, ◌∙◌, lt-ltb}
 use Rattle.coal.specs.Choice.{pick}
-use Rattle.book.specs.declared.Account.{Account}
-use Rattle.book.specs.declared.Match.{Match}
-use Rattle.book.specs.declared.Book.{Book}
+use Rattle.book.specs.declared.accounts.Account.{Account}
+use Rattle.book.specs.declared.matches.Match.{Match}
+use Rattle.book.specs.declared.tables.Book.{Book}
 use Rattle.book.specs.Tables.{account_at, match_at}
 use Rattle.book.specs.Lists.{Reached}
-use Rattle.rows.specs.Needs.{account_there, match_there}
+use Rattle.reached.specs.Needs.{account_there, match_there}
 
 -- the place of row k in a table of n rows: k where the table has such a row, else 0
 unfoldable pub place : ℕ → ℕ → ℕ

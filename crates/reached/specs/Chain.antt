@@ -3,8 +3,8 @@
 use Rattle.std.specs.Prelude.{◌≡◌, refl, Bool, true, false, not, ◌||◌, ℕ, ◌≤◌, ◌<◌, leb, ltb, eqb}
 use Rattle.std.proofs.Common.{sym, ap, ◌∙◌, le-ltb, lt-ltb, le-leb, eq-eqb, ne_eqb}
 use Rattle.std.proofs.lemmas.Bool.{lt-leb}
-use Rattle.book.specs.declared.Book.{Book}
-use Rattle.book.specs.declared.Outcome.{Outcome}
+use Rattle.book.specs.declared.tables.Book.{Book}
+use Rattle.book.specs.Outcomes.{Outcome}
 use Rattle.book.specs.Answers.{refuse, refuse_if, refusal_of}
 
 -- the answer of a function that promises a test is what the test gives

@@ -3,7 +3,7 @@ use Rattle.std.specs.Prelude.{ℕ, ◌+◌, ◌*◌, ◌≤◌, ◌<◌, nat_abs
 use Rattle.std.proofs.Common.{arith, rules, le-ltb, lt-ltb, le-leb, eq-eqb, ne_eqb, Fits}
 use Rattle.std.proofs.lemmas.Bool.{lt-leb}
 use Rattle.std.specs.Int.{w64}
-use Rattle.book.specs.declared.Book.{Book}
+use Rattle.book.specs.declared.tables.Book.{Book}
 use Rattle.book.specs.Tables.{account_at, match_at}
 use Rattle.book.specs.Lists.{Reached}
 use Rattle.book.proofs.laws.Sound.{Sound}

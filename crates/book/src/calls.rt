@@ -1,0 +1,73 @@
+// The calls that change a book.
+use coal::Sample;
+
+// The eighteen calls, in the order of their numbers.
+#[derive(Clone, Copy)]
+pub enum Call {
+    Join {
+        residence: u64,
+        fitness: u64,
+    },
+    Deposit {
+        account: u64,
+        amount: u64,
+    },
+    Withdraw {
+        account: u64,
+        amount: u64,
+    },
+    Trade {
+        buyer: u64,
+        seller: u64,
+        units: u64,
+    },
+    Lodge {
+        owner: u64,
+        class: u64,
+    },
+    Strike {
+        owner: u64,
+        receipt: u64,
+    },
+    Declare {
+        account: u64,
+        heat: u64,
+    },
+    Offer {
+        seller: u64,
+        units: u64,
+    },
+    Retract {
+        seller: u64,
+    },
+    Take {
+        buyer: u64,
+        seller: u64,
+    },
+    Day {
+        price: u64,
+    },
+    Close,
+    Pay {
+        number: u64,
+    },
+    Measure {
+        number: u64,
+        sample: Sample,
+    },
+    Invoice {
+        number: u64,
+    },
+    Terminate {
+        number: u64,
+        party: u64,
+    },
+    HandOver {
+        number: u64,
+    },
+    Auction {
+        number: u64,
+        winner: u64,
+        proceeds: u64,
+    },
+}

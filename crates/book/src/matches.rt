@@ -1,0 +1,67 @@
+// A match: units of a buyer and a seller, and how far it is settled.
+ghost use Rattle.std.specs.Prelude.{◌≡◌, ◌<◌, ◌≤◌};
+ghost use Rattle.book.specs.Rows.{with_held};
+ghost use Rattle.book.specs.Types.{Stage};
+
+// "a stage: 0 paired, 1 prepaid, 2 held, 3 closed, 4 ended"; "the new stage 5, funded"; "stage 6, awaiting auction": each with its number.
+#[derive(Clone, Copy, PartialEq, Eq)]
+pub enum Stage {
+    Paired = 0,
+    Prepaid = 1,
+    Held = 2,
+    Closed = 3,
+    Ended = 4,
+    Funded = 5,
+    Awaiting = 6,
+}
+
+// A match: the numbers of its parties, price in fen a tonne of its day, due day, the seller's declared heat at pairing, fen held.
+#[derive(Clone, Copy)]
+pub struct Match {
+    pub held: u64,
+    pub price: u32,
+    pub units: u16,
+    pub due: u16,
+    pub heat: Option<u16>,
+    pub buyer: u8,
+    pub seller: u8,
+    pub stage: Stage,
+}
+
+impl Match {
+    // "buyer, seller, units, price of its day, due day, seller's declared heat at pairing or missing": a match as it is made, paired, with no money held.
+    pub fn new(
+        buyer: u64,
+        seller: u64,
+        units: u64,
+        price: u64,
+        due: u64,
+        heat: Option<u16>,
+    ) -> Match
+        requires buyer_bound { buyer < 32 }
+        requires seller_bound { seller < 32 }
+        requires units_bound { units < 65_536 }
+        requires price_bound { price ≤ 1_000_000 }
+        requires due_bound { due < 65_536 }
+        ensures { result ≡ record { held = 0; price = price; units = units; due = due; heat = heat; buyer = buyer; seller = seller; stage = Stage.Paired } }
+    {
+        Match {
+            held: 0,
+            price: price as u32,
+            units: units as u16,
+            due: due as u16,
+            heat,
+            buyer: buyer as u8,
+            seller: seller as u8,
+            stage: Stage::Paired,
+        }
+    }
+
+    // So much money held, and a stage.
+    pub fn hold(&mut self, held: u64, stage: Stage)
+        ensures { self.new ≡ with_held self.old held stage }
+    {
+        self.held = held;
+        self.stage = stage;
+    }
+}

@@ -1,0 +1,125 @@
+// The book: its terms, its state of the day, and its three tables.
+ghost use Rattle.std.specs.Prelude.{◌≡◌, ◌≤◌, ◌<◌, IfOk, IfErr};
+ghost use Rattle.book.specs.Opening.{fresh};
+ghost use Rattle.book.specs.Types.{Refusal};
+
+use crate::accounts::Account;
+use crate::matches::{Match, Stage};
+use crate::receipts::{Receipt, ReceiptState};
+use crate::refusals::Refusal;
+
+// The book: kind, T, R, the day's price, and the three tables, each an array of fixed length with how many of its rows are in use: "starts as [v; 256]".
+#[derive(Clone, Copy)]
+pub struct Book {
+    pub board: bool,
+    pub tonnes: u64,
+    pub rate: u64,
+    pub price: u64,
+    pub day: u64,
+    pub open: bool,
+    pub fund: u64,
+    pub deposited: u64,
+    pub accounts: [Account; Book::ACCOUNTS],
+    pub account_count: usize,
+    pub receipts: [Receipt; Book::RECEIPTS],
+    pub receipt_count: usize,
+    pub matches: [Match; Book::MATCHES],
+    pub match_count: usize,
+}
+
+// One of a list of buyers or sellers in Close: an account's number, the units left to it, and where it is a lot its day, else 0.
+#[derive(Clone, Copy)]
+pub struct Listed {
+    pub account: u8,
+    pub left: u16,
+    pub day: u16,
+}
+
+// A row's place by its number, where the table has it.
+fn place(count: usize, number: u64, refusal: Refusal) -> Result<usize, Refusal>
+    ensures there { IfOk result (λ k. (k ≡ number) × (number < count)) }
+    ensures missing { IfErr result (λ e. (e ≡ refusal) × (count ≤ number)) }
+{
+    if count as u64 <= number {
+        return Err(refusal);
+    }
+    Ok(number as usize)
+}
+
+impl Book {
+    pub const ACCOUNTS: usize = 32;
+
+    // four to an account
+    pub const LOTS: usize = 128;
+
+    pub const RECEIPTS: usize = 256;
+
+    pub const MATCHES: usize = 256;
+
+    // "Take stops at 64 matches"
+    pub const TAKE_MATCHES: usize = 64;
+
+    // "A fresh book": day 0, market open, fund 0, deposits accepted 0, all else empty.
+    pub fn fresh(board: bool, tonnes: u64, rate: u64, price: u64) -> Book
+        ensures { result ≡ fresh board tonnes rate price }
+    {
+        let receipt = Receipt {
+            owner: 0,
+            bonded: false,
+            state: ReceiptState::Free,
+        };
+        let unmade = Match {
+            held: 0,
+            price: 0,
+            units: 0,
+            due: 0,
+            heat: None,
+            buyer: 0,
+            seller: 0,
+            stage: Stage::Paired,
+        };
+        let accounts = [Account::new(false, false); 32];
+        let receipts = [receipt; 256];
+        let matches = [unmade; 256];
+        Book {
+            board,
+            tonnes,
+            rate,
+            price,
+            day: 0,
+            open: true,
+            fund: 0,
+            deposited: 0,
+            accounts,
+            account_count: 0,
+            receipts,
+            receipt_count: 0,
+            matches,
+            match_count: 0,
+        }
+    }
+
+    // The place of an account's row: "6 no such account".
+    pub fn account_place(&self, number: u64) -> Result<usize, Refusal>
+        ensures there { IfOk result (λ k. (k ≡ number) × (number < self.now.account_count)) }
+        ensures missing { IfErr result (λ e. (e ≡ Refusal.NoAccount) × (self.now.account_count ≤ number)) }
+    {
+        place(self.account_count, number, Refusal::NoAccount)
+    }
+
+    // The place of a receipt's row: "17 no such receipt".
+    pub fn receipt_place(&self, number: u64) -> Result<usize, Refusal>
+        ensures there { IfOk result (λ k. (k ≡ number) × (number < self.now.receipt_count)) }
+        ensures missing { IfErr result (λ e. (e ≡ Refusal.NoReceipt) × (self.now.receipt_count ≤ number)) }
+    {
+        place(self.receipt_count, number, Refusal::NoReceipt)
+    }
+
+    // The place of a match's row: "21 no such match".
+    pub fn match_place(&self, number: u64) -> Result<usize, Refusal>
+        ensures there { IfOk result (λ k. (k ≡ number) × (number < self.now.match_count)) }
+        ensures missing { IfErr result (λ e. (e ≡ Refusal.NoMatch) × (self.now.match_count ≤ number)) }
+    {
+        place(self.match_count, number, Refusal::NoMatch)
+    }
+}
