@@ -2,16 +2,17 @@
 #![tactic(auto)]
 
 ghost use Rattle.std.specs.Prelude.{◌≡◌};
+ghost use Rattle.book.specs.Answers.{outcome};
 ghost use Rattle.book.specs.Calls.{step};
 ghost use Rattle.book.specs.Lists.{Reached};
 
-use book::{Book, Call, Outcome};
+use book::{Book, Call, Refusal};
 
-// The answer to a call, and the book that it leaves.
+// The answer to a call; a refused one leaves the book as it was.
 #[tactic(auto, unfolding(book::specs::Calls::step))]
-pub fn apply(book: Book, call: Call) -> Outcome
-    requires { Reached book }
-    ensures { result ≡ step book call }
+pub fn apply(book: &mut Book, call: Call) -> Result<u64, Refusal>
+    requires { Reached book.old }
+    ensures { outcome result book.new ≡ step book.old call }
 {
     match call {
         Call::Join { residence, fitness } => accounts::join(book, residence, fitness),
@@ -31,15 +32,7 @@ pub fn apply(book: Book, call: Call) -> Outcome
         Call::Day { price } => accounts::next_day(book, price),
         Call::Close => closing::close(book),
         Call::Pay { number } => settlement::pay_match(book, number),
-        Call::Measure {
-            number,
-            w,
-            q,
-            m,
-            s,
-            f,
-            a,
-        } => measuring::measure(book, number, w, q, m, s, f, a),
+        Call::Measure { number, sample } => measuring::measure(book, number, &sample),
         Call::Invoice { number } => settlement::invoice(book, number),
         Call::Terminate { number, party } => measuring::terminate(book, number, party),
         Call::HandOver { number } => settlement::hand_over(book, number),
