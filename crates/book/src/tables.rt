@@ -28,7 +28,7 @@ pub struct Book {
 }
 
 // One of a list of buyers or sellers in Close: an account's number, the units left to it, and where it is a lot its day, else 0.
-#[derive(Clone, Copy)]
+#[derive(Clone, Copy, Default)]
 pub struct Listed {
     pub account: u8,
     pub left: u16,
