@@ -1,139 +1,78 @@
 // Calls 5 and 6: Lodge, Strike; and the count of an owner's free receipts.
 #![tactic(auto, using(reached::specs::Needs::calls), unfolding(book::specs::Receipts::lodge, book::specs::Receipts::strike))]
 
-ghost use Rattle.std.specs.Prelude.{◌≡◌, not, ◌&&◌, ◌≤◌, ltb};
-ghost use Rattle.book.specs.Counting.{tally};
-ghost use Rattle.book.specs.Rows.{any_class};
-ghost use Rattle.book.specs.Tables.{free_at};
+ghost use Rattle.std.specs.Prelude.{◌≡◌, not, ◌&&◌, ◌≤◌, ltb, length, filter};
+ghost use Rattle.book.specs.Answers.{outcome};
+ghost use Rattle.book.specs.Rows.{any_class, is_free_of};
+ghost use Rattle.book.specs.Tables.{free_receipts};
 ghost use Rattle.book.specs.Receipts.{lodge, strike};
 ghost use Rattle.book.specs.Lists.{Reached};
 
-use book::{Answer, Book, Outcome, Receipt};
+use book::{Book, Receipt, ReceiptState, Refusal, flag};
 
-// How many of the first so many receipts of a table are free, this owner's and of the class meant: bonded, or either.
-pub fn free_receipts(
-    receipts: [Receipt; Book::RECEIPTS],
-    count: usize,
-    bonded: bool,
-    owner: u64,
-) -> u64
-    requires { count ≤ 256 }
-    ensures { result ≡ tally count 0 (free_at receipts bonded owner) }
+// How many of these receipts are free, this owner's and of the class meant: bonded, or either.
+fn count_free(lodged: &[Receipt], bonded: bool, owner: u64) -> usize
+    ensures { result ≡ length (filter (is_free_of bonded owner) lodged.now) }
 {
-    let mut n: u64 = 0;
-    for i in 0..count {
-        let r = receipts[i];
-        let free = rows::is_free_of(r, bonded, owner);
-        n = rows::counted(n, free);
-    }
-    n
+    lodged
+        .iter()
+        .filter(|receipt| receipt.is_free_of(bonded, owner))
+        .count()
+}
+
+// How many free receipts an owner has, of the class meant.
+#[tactic(auto, using(crate::proofs::Rows::free_rows))]
+pub fn free_receipts(book: &Book, bonded: bool, owner: u64) -> u64
+    requires { book.now.receipt_count ≤ 256 }
+    ensures { result ≡ free_receipts book.now bonded owner }
+{
+    count_free(&book.receipts[..book.receipt_count], bonded, owner) as u64
 }
 
 // "receipts book, above the seller's free receipts": whether a receipts book lacks receipts for so many units.
-pub fn lacks_receipts(
-    board: bool,
-    receipts: [Receipt; Book::RECEIPTS],
-    count: usize,
-    seller: u64,
-    units: u64,
-) -> bool
-    requires { count ≤ 256 }
-    ensures { result ≡ not board && ltb (tally count 0 (free_at receipts any_class seller)) units }
+pub fn lacks_receipts(book: &Book, seller: u64, units: u64) -> bool
+    requires { book.now.receipt_count ≤ 256 }
+    ensures { result ≡ not book.now.board && ltb (free_receipts book.now any_class seller) units }
 {
-    if board {
-        return false;
-    }
-    free_receipts(receipts, count, false, seller) < units
+    !book.board && free_receipts(book, false, seller) < units
 }
 
 // "5 Lodge owner, class; carries the receipt number."
-pub fn lodge(mut book: Book, owner: u64, class: u64) -> Outcome
-    requires { Reached book }
-    ensures { result ≡ lodge book owner class }
+pub fn lodge(book: &mut Book, owner: u64, class: u64) -> Result<u64, Refusal>
+    requires { Reached book.old }
+    ensures { outcome result book.new ≡ lodge book.old owner class }
 {
-    let i = book.receipt_count;
     if book.board {
-        return Outcome {
-            answer: Answer::Refused(4),
-            book,
-        };
+        return Err(Refusal::OtherKind);
     }
-    if book.account_count as u64 <= owner {
-        return Outcome {
-            answer: Answer::Refused(6),
-            book,
-        };
-    }
-    if 1 < class {
-        return Outcome {
-            answer: Answer::Refused(8),
-            book,
-        };
-    }
+    book.account_place(owner)?;
+    let bonded = flag(class, Refusal::OutsideSet)?;
+    let i = book.receipt_count;
     if Book::RECEIPTS <= i {
-        return Outcome {
-            answer: Answer::Refused(16),
-            book,
-        };
+        return Err(Refusal::ReceiptsFull);
     }
-    let mut receipts = book.receipts;
-    receipts[i] = rows::new_receipt(owner, class);
-    book.receipts = receipts;
-    book.receipt_count = i + 1;
-    Outcome {
-        answer: Answer::Accepted(i as u64),
-        book,
-    }
+    book.receipts[i] = Receipt::new(owner, bonded);
+    book.receipt_count += 1;
+    Ok(i as u64)
 }
 
 // "6 Strike owner, receipt."
-pub fn strike(mut book: Book, owner: u64, receipt: u64) -> Outcome
-    requires { Reached book }
-    ensures { result ≡ strike book owner receipt }
+pub fn strike(book: &mut Book, owner: u64, receipt: u64) -> Result<u64, Refusal>
+    requires { Reached book.old }
+    ensures { outcome result book.new ≡ strike book.old owner receipt }
 {
     if book.board {
-        return Outcome {
-            answer: Answer::Refused(4),
-            book,
-        };
+        return Err(Refusal::OtherKind);
     }
-    if book.account_count as u64 <= owner {
-        return Outcome {
-            answer: Answer::Refused(6),
-            book,
-        };
+    book.account_place(owner)?;
+    let i = book.receipt_place(receipt)?;
+    let struck = &mut book.receipts[i];
+    if !struck.is_owned_by(owner) || struck.state == ReceiptState::Struck {
+        return Err(Refusal::NoReceipt);
     }
-    if book.receipt_count as u64 <= receipt {
-        return Outcome {
-            answer: Answer::Refused(17),
-            book,
-        };
+    if struck.state.is_frozen() {
+        return Err(Refusal::ReceiptFrozen);
     }
-    let i = receipt as usize;
-    let mut receipts = book.receipts;
-    let r = receipts[i];
-    if !rows::is_owned_by(r, owner) {
-        return Outcome {
-            answer: Answer::Refused(17),
-            book,
-        };
-    }
-    if rows::is_struck(r) {
-        return Outcome {
-            answer: Answer::Refused(17),
-            book,
-        };
-    }
-    if rows::is_frozen(r) {
-        return Outcome {
-            answer: Answer::Refused(18),
-            book,
-        };
-    }
-    receipts[i] = rows::struck(r);
-    book.receipts = receipts;
-    Outcome {
-        answer: Answer::Accepted(0),
-        book,
-    }
+    struck.state = ReceiptState::Struck;
+    Ok(0)
 }
