@@ -3,177 +3,150 @@
 
 ghost use Rattle.std.specs.Prelude.{◌≡◌, not, ◌≤◌, ◌<◌, ◌*◌};
 ghost use Rattle.coal.specs.Choice.{pick};
-ghost use X.{Fault};
-ghost use Rattle.book.specs.Counting.{iter};
 ghost use Rattle.book.specs.Tables.{pay, charge};
-ghost use Rattle.book.specs.Settlement.{punish, release_turn, pass_turn, set_stage, handed};
+ghost use Rattle.book.specs.Settlement.{punish, free_again, pass_receipts, set_stage, handed};
 ghost use Rattle.payments.specs.Money.{most_paid, percent_of, Room, fined, Deal, Handing};
 
-use book::{Book, Fault, Match, Receipt, Stage};
+pub mod valued;
+
+use book::{Book, Match, Stage};
 use coal::rounding::percent_down;
+pub use valued::ValuedMatch;
 
 // ---- money and stage of a match
 
 // "V of a match = units × price × T."
-pub fn value(m: Match, tonnes: u64) -> u64
-    requires units_bound { m.units ≤ 1_000 }
-    requires price_bound { m.price ≤ 1_000_000 }
+pub fn value(m: &Match, tonnes: u64) -> u64
+    requires units_bound { m.now.units ≤ 1_000 }
+    requires price_bound { m.now.price ≤ 1_000_000 }
     requires tonnes_bound { tonnes ≤ 20_000 }
-    ensures value { result ≡ m.units * m.price * tonnes }
+    ensures value { result ≡ m.now.units * m.now.price * tonnes }
     ensures upper_bound { result ≤ most_paid }
 {
     m.units as u64 * m.price as u64 * tonnes
 }
 
-// The book with an amount paid to an account.
+// An amount is paid to an account. It and `charge` are a line each: one function of both is no shorter.
 #[tactic(auto, unfolding(book::specs::Tables::pay))]
-pub fn pay(mut book: Book, account: u8, amount: u64) -> Book
+pub fn pay(book: &mut Book, account: u8, amount: u64)
     requires account_bound { account < 32 }
-    requires room { Room 1 book }
+    requires room { Room 1 book.old }
     requires amount_le_most_paid { amount ≤ most_paid }
-    ensures { result ≡ pay book account amount }
+    ensures { book.new ≡ pay book.old account amount }
 {
-    let k = account as usize;
-    let a = book.accounts[k];
-    book.accounts[k] = rows::credited(a, amount);
-    book
+    book.accounts[account as usize].credit(amount);
 }
 
-// The book with an amount taken from an account.
+// An amount is taken from an account.
 #[tactic(auto, unfolding(book::specs::Tables::charge))]
-pub fn charge(mut book: Book, account: u8, amount: u64) -> Book
+pub fn charge(book: &mut Book, account: u8, amount: u64)
     requires account_bound { account < 32 }
-    requires room { Room 1 book }
+    requires room { Room 1 book.old }
     requires amount_le_most_paid { amount ≤ most_paid }
-    ensures { result ≡ charge book account amount }
+    ensures { book.new ≡ charge book.old account amount }
 {
-    let k = account as usize;
-    let a = book.accounts[k];
-    book.accounts[k] = rows::debited(a, amount);
-    book
+    book.accounts[account as usize].debit(amount);
 }
 
-// The book with so much money held for a match, and the match at a stage.
-pub fn set_stage(mut book: Book, number: u64, held: u64, stage: Stage) -> Book
+// So much money is held for a match, and the match is at a stage.
+pub fn set_stage(book: &mut Book, number: u64, held: u64, stage: Stage)
     requires { number < 256 }
-    ensures { result ≡ set_stage book number held stage }
+    ensures { book.new ≡ set_stage book.old number held stage }
 {
-    let j = number as usize;
-    let m = book.matches[j];
-    book.matches[j] = rows::with_held(m, held, stage);
-    book
+    book.matches[number as usize].hold(held, stage);
 }
 
 // ---- receipts of a match
 
 // "its receipts are free again"
-#[tactic(auto, using(reached::specs::Loops::none_turned, reached::specs::Loops::one_turned, reached::specs::Loops::all_turned), unfolding(book::specs::Settlement::release_turn))]
-pub fn free_again(
-    receipts: [Receipt; Book::RECEIPTS],
-    count: usize,
-    number: u64,
-) -> [Receipt; Book::RECEIPTS]
-    requires { count ≤ 256 }
-    ensures { result ≡ iter count 0 (release_turn number) receipts }
+#[tactic(auto, using(reached::specs::Loops::none_turned, reached::specs::Loops::one_turned, reached::specs::Loops::all_turned), unfolding(book::specs::Settlement::free_again, book::specs::Settlement::release_turn))]
+pub fn free_again(book: &mut Book, number: u64)
+    requires { book.old.receipt_count ≤ 256 }
+    ensures { book.new ≡ free_again book.old number }
 {
-    let mut next = receipts;
-    for i in 0..count {
-        let r = next[i];
-        next[i] = rows::released(r, number);
+    let count = book.receipt_count;
+    for receipt in &mut book.receipts[..count] {
+        receipt.release(number);
     }
-    next
 }
 
 // "the receipts pass to the buyer, free"; a winner "takes the receipts"
-#[tactic(auto, using(reached::specs::Loops::none_turned, reached::specs::Loops::one_turned, reached::specs::Loops::all_turned), unfolding(book::specs::Settlement::pass_turn))]
-fn pass_receipts(
-    receipts: [Receipt; Book::RECEIPTS],
-    count: usize,
-    number: u64,
-    taker: u64,
-) -> [Receipt; Book::RECEIPTS]
-    requires count_bound { count ≤ 256 }
+#[tactic(auto, using(reached::specs::Loops::none_turned, reached::specs::Loops::one_turned, reached::specs::Loops::all_turned), unfolding(book::specs::Settlement::pass_receipts, book::specs::Settlement::pass_turn))]
+fn pass_receipts(book: &mut Book, number: u64, taker: u8)
+    requires count_bound { book.old.receipt_count ≤ 256 }
     requires taker_bound { taker < 32 }
-    ensures { result ≡ iter count 0 (pass_turn number taker) receipts }
+    ensures { book.new ≡ pass_receipts book.old number taker }
 {
-    let mut next = receipts;
-    for i in 0..count {
-        let r = next[i];
-        next[i] = rows::passed(r, number, taker);
+    let count = book.receipt_count;
+    for receipt in &mut book.receipts[..count] {
+        receipt.pass(number, taker);
     }
-    next
 }
 
 // "passes the receipts and pays the seller's 80%": "the rest is held"; the receipts pass to one who takes them, "free; stage held."
-#[tactic(auto, using(crate::specs::Money::money), unfolding(book::specs::Settlement::handed, book::specs::Settlement::pass_receipts, book::specs::Tables::pay))]
-pub fn handed(book: Book, number: u64, m: Match, v: u64, taker: u8) -> Book
-    requires handing { Handing book number m taker }
-    requires v_le_most_paid { v ≤ most_paid }
-    ensures { result ≡ handed book number m v taker }
+#[tactic(auto, using(crate::proofs::Money::money), unfolding(book::specs::Settlement::handed, book::specs::Settlement::pass_receipts, book::specs::Tables::pay))]
+pub fn handed(book: &mut Book, m: &ValuedMatch, taker: u8)
+    requires { Handing book.old m.now taker }
+    ensures { book.new ≡ handed book.old m.now.number m.now.row m.now.value taker }
 {
-    let first = percent_down(80, v);
-    let rest = v - first;
-    let receipts = book.receipts;
-    let passed = pass_receipts(receipts, book.receipt_count, number, taker as u64);
-    let mut given = pay(book, m.seller, first);
-    given.receipts = passed;
-    set_stage(given, number, rest, Stage::Held)
+    let first = percent_down(80, m.value);
+    pay(book, m.row.seller, first);
+    set_stage(book, m.number, m.value - first, Stage::Held);
+    pass_receipts(book, m.number, taker);
 }
 
 // ---- penalties
 
 // "One at fault pays the other; two at fault each pay the fund.": what one of them pays.
-#[tactic(auto, unfolding(crate::specs::Money::fined))]
-fn fined(book: Book, payer: u8, other: u8, amount: u64, both: bool) -> Book
+#[tactic(auto, using(crate::proofs::Money::room_charged), unfolding(crate::specs::Money::fined, book::specs::Tables::charge))]
+fn fined(book: &mut Book, payer: u8, other: u8, amount: u64, both: bool)
     requires payer_bound { payer < 32 }
     requires other_bound { other < 32 }
     requires amount_le_most_paid { amount ≤ most_paid }
-    requires room { Room 2 book }
-    ensures { result ≡ fined both book payer other amount }
+    requires room { Room 2 book.old }
+    ensures { book.new ≡ fined both book.old payer other amount }
 {
-    let mut next = charge(book, payer, amount);
+    charge(book, payer, amount);
     if both {
-        next.fund = book.fund + amount;
-        return next;
+        book.fund += amount;
+    } else {
+        pay(book, other, amount);
     }
-    pay(next, other, amount)
 }
 
 // "A penalty is that percent of V, down": x is the buyer's fault, y the seller's.
-#[tactic(auto, using(crate::specs::Money::money, crate::specs::Money::both_fined), unfolding(book::specs::Settlement::punish, book::specs::Settlement::penalty, crate::specs::Money::fined))]
-pub fn punish(book: Book, m: Match, v: u64, x: Fault, y: Fault) -> Book
-    requires deal { Deal book m v }
-    requires room { Room 4 book }
+#[tactic(auto, using(crate::proofs::Money::money, crate::proofs::Money::both_fined), unfolding(book::specs::Settlement::punish, book::specs::Settlement::penalty, crate::specs::Money::fined))]
+pub fn punish(book: &mut Book, m: &ValuedMatch, x: Option<u64>, y: Option<u64>)
+    requires deal { Deal book.old m.now }
+    requires room { Room 4 book.old }
     requires x_bound { percent_of x ≤ 100 }
     requires y_bound { percent_of y ≤ 100 }
-    ensures { result ≡ punish book m x y }
+    ensures { book.new ≡ punish book.old m.now.row x y }
 {
-    match x {
-        Fault::Faultless => match y {
-            Fault::Faultless => book,
-            Fault::Percent(q) => fined(book, m.seller, m.buyer, percent_down(q, v), false),
-        },
-        Fault::Percent(p) => match y {
-            Fault::Faultless => fined(book, m.buyer, m.seller, percent_down(p, v), false),
-            Fault::Percent(q) => {
-                let next = fined(book, m.buyer, m.seller, percent_down(p, v), true);
-                fined(next, m.seller, m.buyer, percent_down(q, v), true)
-            }
-        },
+    let buyer = m.row.buyer;
+    let seller = m.row.seller;
+    match (x, y) {
+        (None, None) => {}
+        (Some(p), None) => fined(book, buyer, seller, percent_down(p, m.value), false),
+        (None, Some(q)) => fined(book, seller, buyer, percent_down(q, m.value), false),
+        (Some(p), Some(q)) => {
+            fined(book, buyer, seller, percent_down(p, m.value), true);
+            fined(book, seller, buyer, percent_down(q, m.value), true);
+        }
     }
 }
 
 // "unfit (10%), else .. (R%)": the fault of a party that lacks something or not.
-pub fn fault(fit: bool, lacking: bool, rate: u64) -> Fault
+pub fn fault(fit: bool, lacking: bool, rate: u64) -> Option<u64>
     requires { rate ≤ 100 }
-    ensures value { result ≡ pick (not fit) (Fault.Percent 10) (pick lacking (Fault.Percent rate) Fault.Faultless) }
+    ensures value { result ≡ pick (not fit) (Some 10) (pick lacking (Some rate) None) }
     ensures result_bound { percent_of result ≤ 100 }
 {
     if !fit {
-        return Fault::Percent(10);
+        return Some(10);
     }
     if lacking {
-        return Fault::Percent(rate);
+        return Some(rate);
     }
-    Fault::Faultless
+    None
 }

@@ -1,6 +1,7 @@
 -- Loops over numbers: what is left, done to the present state, is the whole, done to the first. Assumes nothing.
-use Rattle.std.specs.Prelude.{◌≡◌, Bool, ℕ, suc, ◌+◌, ◌-◌, ◌≤◌, ◌<◌}
-use Rattle.std.proofs.Common.{arith, zero-add}
+use Rattle.std.specs.Prelude.{◌≡◌, refl, Bool, List, [], ◌∷◌, ◌++◌, length, take, drop, map, get_or, set, ℕ, zero, suc, ◌+◌, ◌-◌, ◌≤◌, ◌<◌}
+use Rattle.std.proofs.Common.{arith, ap, ◌∙◌, zero-add, append-nil}
+use Rattle.std.proofs.Math.Seq.{take-length, drop-length}
 use Rattle.std.proofs.Math.Nat.{sub-zero}
 use Rattle.book.specs.Counting.{iter, tally, one_if}
 use Rattle.book.proofs.laws.Counting.{one_most}
@@ -27,6 +28,32 @@ module _ {S : Type 0} {f : ℕ → S → S} {n i : ℕ} {s z : S} (t : Turned f 
   pub all_turned : n ≤ i → s ≡ z
   unfolding iter
   all_turned h = rw (none_left n i h) at t.same
+
+-- a turn that changes the row at its place
+abbrev pub row_turn : {A : Type 0} → (A → A) → A → ℕ → List A → List A
+row_turn g d i l = set l i (g (get_or l i d))
+
+module _ {A : Type 0} (g : A → A) (d : A) where
+  no_rows : (n i : ℕ) → iter n i (row_turn g d) [] ≡ []
+  unfolding iter
+  no_rows zero i = refl
+  no_rows (suc n) i = no_rows n (i + 1)
+
+  later_rows : (n i j : ℕ) (x : A) (l : List A) → j ≡ suc i → iter n j (row_turn g d) (x ∷ l) ≡ x ∷ iter n i (row_turn g d) l
+  unfolding iter
+  later_rows zero i j x l e = refl
+  later_rows (suc n) i j x l e = rw e (later_rows n (i + 1) (suc i + 1) x (set l i (g (get_or l i d))) (omega arith))
+
+  -- turns at the places of the first n rows of a table change each of those rows
+  pub rows_turned : (n : ℕ) (l : List A) → iter n 0 (row_turn g d) l ≡ map g (take n l) ++ drop n l
+  unfolding iter
+  rows_turned zero l = refl
+  rows_turned (suc n) [] = no_rows n 1
+  rows_turned (suc n) (x ∷ l) = later_rows n 0 1 (g x) l refl ∙ ap (λ (k : List A). g x ∷ k) (rows_turned n l)
+
+  -- the first rows, turned as a table of their own, with the rest behind them
+  pub table_turned : (n : ℕ) (l s : List A) → s ≡ iter (length (take n l)) 0 (row_turn g d) (take n l) → s ++ drop n l ≡ iter n 0 (row_turn g d) l
+  table_turned n l s e = rw e (rw (rows_turned (length (take n l)) (take n l), rows_turned n l, take-length, drop-length, append-nil) refl)
 
 -- of n numbers those below i are counted: the count c, with what is left to count, comes to z
 pub record Counted (p : ℕ → Bool) (n z i c : ℕ) : Type 0 where

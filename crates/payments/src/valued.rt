@@ -1,0 +1,32 @@
+// A match that is settled: its number, its row and what it is worth.
+ghost use Rattle.std.specs.Prelude.{◌≡◌, ◌<◌};
+ghost use Rattle.book.specs.Lists.{Reached};
+ghost use Rattle.payments.specs.Money.{valued, Due};
+
+use crate::value;
+use book::{Book, Match};
+
+#[derive(Clone, Copy)]
+pub struct ValuedMatch {
+    pub number: u64,
+    pub row: Match,
+    pub value: u64,
+}
+
+impl ValuedMatch {
+    // The match of a number, where the book has it.
+    #[tactic(auto, using(reached::specs::Needs::calls, crate::proofs::Money::due_sound), unfolding(book::specs::Settlement::value))]
+    pub fn of(book: &Book, number: u64) -> ValuedMatch
+        requires reached { Reached book.now }
+        requires there { number < book.now.match_count }
+        ensures value { result ≡ valued book.now number }
+        ensures due { Due book.now result }
+    {
+        let row = book.matches[number as usize];
+        ValuedMatch {
+            number,
+            row,
+            value: value(&row, book.tonnes),
+        }
+    }
+}
