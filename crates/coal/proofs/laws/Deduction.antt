@@ -1,9 +1,7 @@
 -- One deduction for volatiles and ash, as document 02's Job 8 has it: laws of the price, for every price of a match, declared heat and measured value. Assumes nothing.
 use Rattle.std.specs.Prelude.{◌≡◌, Bool, true, ℕ, ◌≤◌, ◌<◌}
-use Rattle.std.proofs.Common.{◌∙◌, sym}
-use Rattle.std.proofs.Math.Path.{ap}
+use Rattle.std.proofs.Common.{◌∙◌, sym, ap, lt-ltb, le-ltb}
 use Rattle.std.proofs.Math.Bool.{or-true}
-use borrow.Author.Tests.{lt-ltb, le-ltb}
 use Rattle.coal.specs.Choice.{pick}
 use Rattle.coal.specs.Coal.{percent_half_up, settled_heat, price_by_heat, less_short_heat, less_sulphur, by_sulphur, outside, by_volatiles_or_ash, coal_price}
 

@@ -1,8 +1,8 @@
 -- Step 2 by the heat table, as document 02's Job 9 has it: laws of the price by heat, for every price of a match. Assumes nothing.
 use Rattle.std.specs.Prelude.{◌≡◌, refl, Bool, true, false, ℕ, ◌+◌, ◌-◌, ◌*◌, ◌≤◌, ◌<◌, leb, get_or}
-use Rattle.std.proofs.Common.{ap, le_of_mul-le-mul_right, mul_assoc, mul-pos, arith}
+use Rattle.std.proofs.Common.{ap, le_of_mul-le-mul_right, mul-le-mul, mul_assoc, mul-pos, arith}
 use borrow.Author.Tests.{le-leb, lt-leb}
-use Rattle.heats.specs.Numerators.{factor, numerator, heat_table, denominator, entry}
+use Rattle.heats.specs.Numerators.{factor, numerator, heat_table, denominator, entry, numerator_most}
 use Rattle.coal.specs.Choice.{pick}
 use Rattle.coal.specs.Coal.{half_even, price_by_heat}
 use Rattle.coal.proofs.laws.Rounding.{NearestEven, nearest_even, only_even}
@@ -47,3 +47,7 @@ module _ (p e : ℕ) where
   pub below_table : e < 4_300 → half_even (p * e * 7_687) 90_000_000 ≡ price_by_heat p e
   unfolding price_by_heat
   below_table h = rw (lt-leb 5_300 e (omega arith), lt-leb 4_800 e (omega arith), lt-leb 4_300 e h)
+
+  -- P times a numerator is far from 64 bits
+  pub entry_most : p ≤ 1_000_000 → e ≤ 6_000 → p * numerator e ≤ 5_400_000_000_000_000
+  entry_most h k = mul-le-mul h (numerator_most e k)

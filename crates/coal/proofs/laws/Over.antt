@@ -1,10 +1,6 @@
 -- The kilograms over, as document 02's Job 2 has them: laws of the weight rule. Assumes nothing.
-use Rattle.std.specs.Prelude.{◌≡◌, Bool, ℕ, ◌+◌, ◌-◌, ◌≤◌}
-use Rattle.std.proofs.Math.Path.{refl}
-use Rattle.std.proofs.Math.Bool.{true, false}
-use Rattle.std.proofs.Math.Dec.{ltb}
-use native.Mathlib.Omega.{arith}
-use Rattle.std.proofs.Common.{le-ltb, ltb-true, ltb-false}
+use Rattle.std.specs.Prelude.{◌≡◌, refl, Bool, true, false, ℕ, ◌+◌, ◌-◌, ◌≤◌, ltb}
+use Rattle.std.proofs.Common.{arith, le-ltb, ltb-true, ltb-false}
 use Rattle.coal.specs.Choice.{pick}
 use Rattle.coal.specs.Coal.{weight_within, coal_weight}
 

@@ -1,6 +1,5 @@
 -- What the two roundings are, and which rule of the coal price and weight has which: "half up" (document 01) and "an exact half to the even fen" (document 02, Job 3). Assumes nothing.
-use Rattle.std.specs.Prelude.{◌≡◌, Bool, true, false, ℕ, zero, suc, ◌+◌, ◌-◌, ◌*◌, ◌/◌, ◌%◌, ◌≤◌, ◌<◌, eqb, leb}
-use Rattle.std.proofs.Math.Path.{refl}
+use Rattle.std.specs.Prelude.{◌≡◌, refl, Bool, true, false, ℕ, zero, suc, ◌+◌, ◌-◌, ◌*◌, ◌/◌, ◌%◌, ◌≤◌, ◌<◌, eqb, leb}
 use Rattle.std.proofs.Common.{ap, div-add-mod', div-mul-le_self, le_antisymm, lt_of_mul-lt-mul_right, mod-lt, mul-le-mul_right, mul_left_comm, arith}
 use Rattle.std.proofs.Math.Nat.{eq_of_mul-eq-mul_right, lt-div-mul-add}
 use borrow.Author.Tests.{eqb-true, eqb-false, le-leb, leb-true, leb-false, lt-leb, lt-ltb}
