@@ -3,10 +3,10 @@
 
 ghost use Rattle.std.specs.Prelude.{◌≡◌, ◌+◌, ◌*◌, ◌≤◌, length};
 ghost use Rattle.book.specs.Answers.{outcome};
-ghost use Rattle.book.specs.Lists.{Reached};
+ghost use Rattle.book.specs.Lists.{Reached, after};
 ghost use Rattle.reader.specs.Lines.{lines, line_of};
 ghost use Rattle.text.specs.Print.{Put};
-ghost use Rattle.running.specs.Later.{reply, answers, calls_after};
+ghost use Rattle.running.specs.Later.{reply, answers, calls_of};
 
 use book::{Book, Refusal};
 
@@ -24,7 +24,7 @@ fn reply(book: &mut Book, line: &[u8]) -> Result<u64, Refusal>
 // The calls of the lines of a text.
 pub fn run(book: &mut Book, text: &[u8])
     requires { Reached book.old }
-    ensures { book.new ≡ after_lines book.old (lines text.now) }
+    ensures { book.new ≡ after book.old (calls_of (lines text.now)) }
 {
     let mut rest = text;
     while !rest.is_empty() {
@@ -37,8 +37,8 @@ pub fn run(book: &mut Book, text: &[u8])
 // The same, with the answers printed: "Each line prints `ok n` .. or `no n`."
 pub fn print_run(book: &mut Book, text: &[u8], out: &mut [u8], at: usize) -> usize
     requires reached { Reached book.old }
-    requires room { at + 12 * length text.now + 24 ≤ length out.old }
-    ensures book { book.new ≡ after_lines book.old (lines text.now) }
+    requires room { at + 12 * length text.now + 12 ≤ length out.old }
+    ensures book { book.new ≡ after book.old (calls_of (lines text.now)) }
     ensures answers { Put out.old out.new at result (answers book.old (lines text.now)) }
     ensures room { result ≤ at + 12 * length text.now }
 {
