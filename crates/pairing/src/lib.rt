@@ -1,149 +1,85 @@
 // Pairing, and call 10: Take.
-#![tactic(auto, using(reached::specs::Needs::calls), unfolding(book::specs::Pairing::pair, book::specs::Pairing::freeze, book::specs::Offers::take_offer, book::specs::Tables::free_receipts))]
+#![tactic(auto, using(reached::specs::Needs::calls), unfolding(book::specs::Pairing::pair, book::specs::Pairing::freeze, book::specs::Offers::take_offer))]
 
-ghost use Rattle.std.specs.Prelude.{◌≡◌, ◌≤◌, ◌<◌, ◌+◌};
+ghost use Rattle.std.specs.Prelude.{◌≡◌, ◌≤◌, ◌<◌, ◌+◌, length};
 ghost use Rattle.book.specs.Counting.{iter};
 ghost use Rattle.book.specs.Pairing.{freeze_turn, pair};
 ghost use Rattle.book.specs.Offers.{take_offer};
-ghost use Rattle.book.specs.Answers.{refusal_of};
-ghost use Rattle.book.specs.Tables.{account_at};
+ghost use Rattle.book.specs.Answers.{outcome};
 ghost use Rattle.book.specs.Lists.{Reached};
-ghost use Rattle.reached.specs.Places.{place};
 
-use book::{Account, Answer, Book, Freezing, Outcome, Receipt};
+use book::{Book, Match, Receipt, Refusal, Side};
 
 // "freezes the seller's lowest-numbered free receipts, as many as the units or as there are"; it stops once none is left to freeze.
-fn freeze(
-    receipts: [Receipt; Book::RECEIPTS],
-    count: usize,
-    bonded: bool,
-    seller: u64,
-    number: u64,
-    units: u64,
-) -> [Receipt; Book::RECEIPTS]
-    requires count_bound { count ≤ 256 }
-    requires number_bound { number < 256 }
-    ensures { result ≡ (iter count 0 (freeze_turn bonded seller number) (record { receipts = receipts; left = units })).receipts }
+fn freeze(lodged: &mut [Receipt], bonded: bool, seller: u64, number: u64, units: u64)
+    requires { number < 256 }
+    ensures { lodged.new ≡ (iter (length lodged.old) 0 (freeze_turn bonded seller number) (record { receipts = lodged.old; left = units })).receipts }
 {
-    let mut t = Freezing {
-        receipts,
-        left: units,
-    };
-    for i in 0..count {
-        if t.left == 0 {
-            return t.receipts;
+    let mut left = units;
+    for receipt in lodged.iter_mut() {
+        if left == 0 {
+            return;
         }
-        let receipt = t.receipts[i];
-        if rows::is_free_of(receipt, bonded, seller) {
-            t.receipts[i] = rows::frozen_for(receipt, number);
-            t.left -= 1;
+        if receipt.is_free_of(bonded, seller) {
+            receipt.freeze(number);
+            left -= 1;
         }
     }
-    t.receipts
 }
 
 // "takes the units off both sides; .. In a receipts book it freezes the seller's lowest-numbered free receipts": the next match, due in some days.
-pub fn pair(
-    mut book: Book,
-    bonded_only: bool,
-    days: u64,
-    buyer: u64,
-    seller: u64,
-    units: u64,
-) -> Book
+#[tactic(auto, using(reached::specs::Needs::calls, crate::proofs::Freezing::first_frozen), unfolding(book::specs::Pairing::pair, book::specs::Pairing::freeze))]
+pub fn pair(book: &mut Book, bonded_only: bool, days: u64, buyer: u64, seller: u64, units: u64)
     requires buyer_bound { buyer < 32 }
     requires seller_bound { seller < 32 }
     requires units_bound { units < 65_536 }
-    requires price_bound { book.price ≤ 1_000_000 }
-    requires days_bound { book.day + days ≤ 10_000 }
-    requires receipt_count_bound { book.receipt_count ≤ 256 }
-    requires match_count_bound { book.match_count < 256 }
-    ensures { result ≡ pair book bonded_only days buyer seller units }
+    requires price_bound { book.old.price ≤ 1_000_000 }
+    requires days_bound { book.old.day + days ≤ 10_000 }
+    requires receipt_count_bound { book.old.receipt_count ≤ 256 }
+    requires match_count_bound { book.old.match_count < 256 }
+    ensures { book.new ≡ pair book.old bonded_only days buyer seller units }
 {
     let number = book.match_count;
     let i = buyer as usize;
     let j = seller as usize;
-    let a = book.accounts[j];
-    let heat = a.heat;
-    book.matches[number] = rows::new_match(buyer, seller, units, book.price, book.day + days, heat);
-    book.match_count = number + 1;
-    book.accounts[i] = rows::units_off(book.accounts[i], units);
-    book.accounts[j] = rows::units_off(book.accounts[j], units);
-    if book.board {
-        return book;
+    let heat = book.accounts[j].heat;
+    book.matches[number] = Match::new(buyer, seller, units, book.price, book.day + days, heat);
+    book.match_count += 1;
+    book.accounts[i].use_up(units);
+    book.accounts[j].use_up(units);
+    if !book.board {
+        let lodged = &mut book.receipts[..book.receipt_count];
+        freeze(lodged, bonded_only, seller, number as u64, units);
     }
-    let receipts = book.receipts;
-    book.receipts = freeze(
-        receipts,
-        book.receipt_count,
-        bonded_only,
-        seller,
-        number as u64,
-        units,
-    );
-    book
-}
-
-// The number with which Take is refused, by the rows at the places of buyer and seller; 0 where it is accepted.
-pub fn take_refusal(book: Book, bought: Account, sold: Account, buyer: u64, seller: u64) -> u64
-    requires reached { Reached book }
-    requires bought_value { bought ≡ account_at book (place 32 buyer) }
-    requires sold_value { sold ≡ account_at book (place 32 seller) }
-    ensures { result ≡ refusal_of (take_offer book buyer seller).answer }
-{
-    let count = book.account_count as u64;
-    if !book.open {
-        return 5;
-    }
-    if count <= buyer {
-        return 6;
-    }
-    if count <= seller {
-        return 6;
-    }
-    if buyer == seller {
-        return 7;
-    }
-    if rows::offer_missing(sold) {
-        return 13;
-    }
-    let units = rows::offer_units(sold);
-    if rows::long_units(bought) < units {
-        return 14;
-    }
-    let lodged = book.receipts;
-    if receipts::lacks_receipts(book.board, lodged, book.receipt_count, seller, units) {
-        return 15;
-    }
-    if Book::TAKE_MATCHES <= book.match_count {
-        return 20;
-    }
-    0
 }
 
 // "10 Take buyer, seller: the whole offer becomes a match due in 2 days; the offer ends; carries the match number."
-pub fn take_offer(book: Book, buyer: u64, seller: u64) -> Outcome
-    requires { Reached book }
-    ensures { result ≡ take_offer book buyer seller }
+pub fn take_offer(book: &mut Book, buyer: u64, seller: u64) -> Result<u64, Refusal>
+    requires { Reached book.old }
+    ensures { outcome result book.new ≡ take_offer book.old buyer seller }
 {
-    let i = rows::account_place(buyer);
-    let j = rows::account_place(seller);
-    let accounts = book.accounts;
-    let bought = accounts[i];
-    let sold = accounts[j];
-    let refused = take_refusal(book, bought, sold, buyer, seller);
-    if refused != 0 {
-        return Outcome {
-            answer: Answer::Refused(refused),
-            book,
-        };
+    if !book.open {
+        return Err(Refusal::MarketShut);
     }
-    let units = rows::offer_units(sold);
+    let i = book.account_place(buyer)?;
+    let j = book.account_place(seller)?;
+    if i == j {
+        return Err(Refusal::BuyerIsSeller);
+    }
+    let bought = book.accounts[i];
+    let sold = book.accounts[j];
+    let units = sold.offer.ok_or(Refusal::NoOffer)? as u64;
+    if bought.units_of(Side::Long) < units {
+        return Err(Refusal::AboveUnits);
+    }
+    if receipts::lacks_receipts(book, seller, units) {
+        return Err(Refusal::AboveReceipts);
+    }
     let number = book.match_count;
-    let mut next = pair(book, false, 2, buyer, seller, units);
-    next.accounts[j] = rows::with_offer_ended(next.accounts[j]);
-    Outcome {
-        answer: Answer::Accepted(number as u64),
-        book: next,
+    if Book::TAKE_MATCHES <= number {
+        return Err(Refusal::TakesFull);
     }
+    pair(book, false, 2, buyer, seller, units);
+    book.accounts[j].offer = None;
+    Ok(number as u64)
 }
