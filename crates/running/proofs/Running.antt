@@ -33,29 +33,30 @@ pub record Led (text : List ℕ) (b : Book) (rest : List ℕ) (next : Book) : Ty
   pub reached : Reached next
   pub same : after next (calls_of (lines rest)) ≡ after b (calls_of (lines text))
 
-module _ {text rest line later : List ℕ} {b next : Book} (h : 0 < length rest) (p : line ≡ take (line_length rest) rest) (q : later ≡ drop (line_length rest) rest) where
+module _ (rest : List ℕ) (h : 0 < length rest) where
   cut : Cut rest
   cut = cut_some rest h
 
-  first : lines rest ≡ line ∷ lines later
-  first = rw (p, q) cut.first
+  first : {line later : List ℕ} → line ≡ take (line_length rest) rest → later ≡ drop (line_length rest) rest → lines rest ≡ line ∷ lines later
+  first p q = rw (p, q) cut.first
 
-  pub fewer : length later < length rest
-  fewer = let c = cut in rw q (omega (arith, c.some, c.within))
+  pub fewer : {later : List ℕ} → later ≡ drop (line_length rest) rest → length later < length rest
+  fewer q = let c = cut in rw q (omega (arith, c.some, c.within, length-drop (line_length rest) rest))
 
+module _ {text rest line later : List ℕ} {b next : Book} (h : 0 < length rest) (p : line ≡ take (line_length rest) rest) (q : later ≡ drop (line_length rest) rest) where
   -- one line
   pub led_on : Led text b rest next → (o : Outcome) → o ≡ reply next (line_of line) → Led text b later o.book
   unfolding calls_of
   led_on i o e =
       record {
         reached = rw e (reply_reached next (line_of line) i.reached);
-        same = rw e (sym (after_line next (line_of line) (calls_of (lines later))) ∙ (rw first at i.same));
+        same = rw e (sym (after_line next (line_of line) (calls_of (lines later))) ∙ (rw (first rest h p q) at i.same));
       }
 
 -- none is left
 pub led_all : {text rest : List ℕ} {b next : Book} → Led text b rest next → length rest ≡ 0 → next ≡ after b (calls_of (lines text))
 unfolding lines calls_of after
-led_all {rest} i h = rw nil_from_length rest h at i.same
+led_all {rest} i h = rw (nil_from_length rest h) at i.same
 
 -- ---- the answers printed
 
@@ -88,11 +89,12 @@ module _ {text rest line later : List ℕ} {b next : Book} (h : 0 < length rest)
       let some : 1 ≤ length line = rw p (omega (arith, c.some, c.within, length-take (line_length rest) rest)) in
       let written : Put _ _ w v (answer_line (reply next (line_of line)).answer) = rw e at put in
       let short = reply_short next line some (omega (arith, written.next)) in
+      let whole : length line + length later ≡ length rest = rw (p, q) (omega (arith, c.within, length-take (line_length rest) rest, length-drop (line_length rest) rest)) in
       record {
         led = led_on h p q i.led o e;
-        room = ?;
+        room = omega (arith, i.room, short, written.next, whole);
         long = same ∙ i.long;
-        on = λ z r rest'. i.on z r (rw (first h p q) (put_then written (rw e at rest')));
+        on = λ z r rest'. i.on z r (rw (first rest h p q) (put_then written (rw e at rest')));
       }
 
 -- none is left

@@ -1,20 +1,14 @@
 -- The page of the book after a session, in a lent buffer, and the room that is enough for it. Assumes nothing.
-use mathlib.Core.Path.{◌≡◌, refl, ap, sym, ◌∙◌}
-use mathlib.Core.Bool.{Bool, true, false}
-use mathlib.Core.List.{List, [], ◌∷◌, ◌++◌}
-use Prim.Native.Nat.{ℕ, ◌≤◌, ◌<◌}
-use native.Mathlib.Omega.{arith}
-use lib.Dec.{ltb}
-use lib.ListN.{length, take, drop, length-append}
-use lib.Seq.{length-take-le}
-use borrow.Author.Tests.{lt-ltb, le-ltb}
+use Rattle.std.specs.Prelude.{◌≡◌, Bool, true, false, List, [], ◌∷◌, ◌++◌, ℕ, ◌≤◌, ◌<◌, ltb, length, take, drop, Option, Some, None, IfSome, Result, Ok, Err}
+use Rattle.std.proofs.Common.{refl, ap, sym, ◌∙◌, arith, lt-ltb, le-ltb, length-append, length-take-le}
 use Rattle.coal.specs.Choice.{pick}
 use Rattle.book.specs.declared.tables.Book.{Book}
 use Rattle.book.specs.Outcomes.{Answer, Outcome}
-use Rattle.book.specs.Answers.{is_accepted}
-use Rattle.book.specs.Opening.{opening}
+use Rattle.book.specs.Answers.{refuse, accept, is_accepted}
+use Rattle.book.specs.Opening.{opening, no_book}
 use Rattle.book.proofs.laws.Counting.{by_pick}
-use Rattle.reader.specs.declared.lines.OpeningLine.{OpeningLine}
+use Rattle.reader.specs.declared.lines.BadLine.{BadLine}
+use Rattle.reader.specs.declared.lines.Opening.{Opening}
 use Rattle.reader.specs.Lines.{lines, opening_line_of}
 use Rattle.text.specs.Print.{Put, answer_line, spaced, digits, last_digits}
 use Rattle.text.specs.Page.{page, lent, page_answer}
@@ -28,45 +22,45 @@ use Rattle.session.proofs.Starting.{demanded, outcome_led}
 
 module _ (t before : List ℕ) where
   -- all of them, where the buffer is long enough
-  lent_all : length t ≤ length before → lent_count t before ≡ length t
+  lent_all : length t ≤ length before → lent_count t before ≡ Some (length t)
   unfolding lent_count
   lent_all h = rw (le-ltb (length before) (length t) h) refl
 
-  lent_within : lent_count t before ≤ length (lent t before)
+  lent_within : IfSome (lent_count t before) (λ n. n ≤ length (lent t before))
   unfolding lent lent_count
   lent_within = go (ltb (length before) (length t))
     where
-      go : (c : Bool) → pick c 0 (length t) ≤ length (pick c before (t ++ drop (length t) before))
-      go true = omega arith
+      go : (c : Bool) → IfSome (pick c None (Some (length t))) (λ n. n ≤ length (pick c before (t ++ drop (length t) before)))
+      go true = tt
       go false = simp length-append (omega arith)
 
 -- none, where it is too short
-pub lent_none : {before : List ℕ} (t : List ℕ) → length before < length t → (0 ≡ lent_count t before) × (before ≡ lent t before)
+pub lent_none : {before : List ℕ} (t : List ℕ) → length before < length t → (None ≡ lent_count t before) × (before ≡ lent t before)
 unfolding lent_count
 lent_none {before} t h = (rw (lt-ltb (length before) (length t) h) refl, lent_short t h)
 
 -- a text from a buffer of its own, where it was written first
-pub lent_again : {x y before after : List ℕ} {w r : ℕ} (t : List ℕ) → Put x y 0 w t → w ≤ length before → Put before after 0 r (take w y) → (r ≡ lent_count t before) × (after ≡ lent t before)
+pub lent_again : {x y before after : List ℕ} {w r : ℕ} (t : List ℕ) → Put x y 0 w t → w ≤ length before → Put before after 0 r (take w y) → (Some r ≡ lent_count t before) × (after ≡ lent t before)
 lent_again {before = before} t p h q =
     let g : length t ≤ length before = omega (arith, p.next) in
     let put : Put _ _ 0 _ t = rw p.text at q in
-    (put.next ∙ omega (arith, lent_all t before g), lent_written t g put)
+    (ap Some (omega (arith, put.next)) ∙ sym (lent_all t before g), lent_written t g put)
 
 -- the page's answer tells the count
 module _ (b : Book) (before : List ℕ) {n : ℕ} where
-  pub accepted_count : Answer.Accepted n ≡ page_answer b before → n ≡ lent_count (page b) before
+  pub accepted_count : Answer.Accepted n ≡ page_answer b before → Some n ≡ lent_count (page b) before
   unfolding page_answer lent_count
   accepted_count e = go (ltb (length before) (length (page b))) e
     where
-      go : (c : Bool) → Answer.Accepted n ≡ pick c (Answer.Refused 27) (Answer.Accepted (length (page b))) → n ≡ pick c 0 (length (page b))
+      go : (c : Bool) → Answer.Accepted n ≡ pick c (Answer.Refused 27) (Answer.Accepted (length (page b))) → Some n ≡ pick c None (Some (length (page b)))
       go true q = cc
       go false q = cc
 
-  pub refused_count : Answer.Refused n ≡ page_answer b before → 0 ≡ lent_count (page b) before
+  pub refused_count : Answer.Refused n ≡ page_answer b before → None ≡ lent_count (page b) before
   unfolding page_answer lent_count
   refused_count e = go (ltb (length before) (length (page b))) e
     where
-      go : (c : Bool) → Answer.Refused n ≡ pick c (Answer.Refused 27) (Answer.Accepted (length (page b))) → 0 ≡ pick c 0 (length (page b))
+      go : (c : Bool) → Answer.Refused n ≡ pick c (Answer.Refused 27) (Answer.Accepted (length (page b))) → None ≡ pick c None (Some (length (page b)))
       go true q = refl
       go false q = cc
 
@@ -91,9 +85,9 @@ unfolding spaced digits last_digits
 first_short [] = omega arith
 first_short (l ∷ ls) = go (opening_line_of l)
   where
-    go : (o : OpeningLine) → Short (opened o)
-    go OpeningLine.Bad = omega arith
-    go (OpeningLine.Open kind t r p) = opening_short kind t r p
+    go : (o : Result Opening BadLine) → Short (opened o)
+    go (Err e) = omega arith
+    go (Ok o) = opening_short o.kind o.tonnes o.rate o.price
 
 line_one_short : (s : List ℕ) → Short (line_one s)
 unfolding line_one spaced digits last_digits
@@ -113,25 +107,28 @@ page_fits s = by_pick (λ (t : List ℕ). length t ≤ page_room) (is_accepted (
 -- ---- what the function promises
 
 -- who gives the count and leaves the buffer as they are meant has done it
-module _ {s before out : List ℕ} {r : ℕ} where
+module _ {s before out : List ℕ} {r : Option ℕ} where
   paged : (t : List ℕ) → page_output s ≡ t → (r ≡ lent_count t before) × (out ≡ lent t before) → Paged s before out r
   paged t e p =
-      let h : r ≤ length out = rw (p.0, p.1) (lent_within t before) in
       let count : r ≡ lent_count (page_output s) before = rw e p.0 in
+      let within : IfSome r (λ n. n ≤ length out) = rw (p.0, p.1) (lent_within t before) in
       record {
-        within = h;
-        counted = sym (length-take-le r out h);
+        within = within;
+        counted = taken r within;
         count = count;
         text = rw e p.1;
         enough = λ g. count ∙ lent_all (page_output s) before (omega (arith, page_fits s));
         demanded = demanded (lines s);
       }
+    where
+      taken : (o : Option ℕ) → IfSome o (λ n. n ≤ length out) → IfSome o (λ n. n ≡ length (take n out))
+      taken None h = tt
+      taken (Some n) h = sym (length-take-le n out h)
 
-  module _ (o : Outcome) (e : o ≡ outcome s) where
-    pub page_paged : {n : ℕ} → o.answer ≡ Answer.Accepted n → (r ≡ lent_count (page o.book) before) × (out ≡ lent (page o.book) before) → Paged s before out r
-    unfolding page_output
-    page_paged a p = paged (page o.book) (rw (← e, a)) p
+  pub page_paged : {b : Book} → accept 0 b ≡ outcome s → (r ≡ lent_count (page b) before) × (out ≡ lent (page b) before) → Paged s before out r
+  unfolding page_output
+  page_paged {b = b} e p = paged (page b) (rw (← e)) p
 
-    pub line_paged : {n : ℕ} → o.answer ≡ Answer.Refused n → (r ≡ lent_count (answer_line o.answer) before) × (out ≡ lent (answer_line o.answer) before) → Paged s before out r
-    unfolding page_output
-    line_paged a p = paged (answer_line o.answer) (rw (← e, ap is_accepted a)) p
+  pub line_paged : {n : ℕ} → refuse n no_book ≡ outcome s → (r ≡ lent_count (answer_line (Answer.Refused n)) before) × (out ≡ lent (answer_line (Answer.Refused n)) before) → Paged s before out r
+  unfolding page_output
+  line_paged {n} e p = paged (answer_line (Answer.Refused n)) (rw (← e)) p

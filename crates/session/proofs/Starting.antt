@@ -1,14 +1,7 @@
 -- A session from its first line: line one's outcome, and what the whole comes to. Assumes nothing.
-use mathlib.Core.Path.{◌≡◌, refl, ap, sym, ◌∙◌}
-use mathlib.Core.Bool.{Bool, true, false, true≢false}
-use mathlib.Core.List.{List, [], ◌∷◌, ◌++◌, append-nil}
-use Prim.Native.Nat.{ℕ, ◌+◌, ◌≤◌, ◌<◌}
-use native.Mathlib.Nat.{sub-zero}
-use native.Mathlib.Omega.{arith}
-use lib.Dec.{ltb}
-use lib.ListN.{length, take, drop, length-take}
-use borrow.Author.Tests.{lt-ltb, le-ltb, ltb-false}
-use Rattle.coal.specs.Choice.{pick}
+use Rattle.std.specs.Prelude.{◌≡◌, Bool, true, false, List, [], ◌∷◌, ◌++◌, ℕ, ◌≤◌, ◌<◌, ltb, length, take, drop, Result, Ok, Err}
+use Rattle.std.proofs.Common.{refl, ap, sym, ◌∙◌, arith, lt-ltb, le-ltb, ltb-false, length-take, append-nil}
+use mathlib.Core.Bool.{true≢false}
 use Rattle.book.specs.declared.tables.Book.{Book}
 use Rattle.book.specs.declared.calls.Call.{Call}
 use Rattle.book.specs.Outcomes.{Answer, Outcome}
@@ -19,37 +12,33 @@ use Rattle.book.specs.Lists.{Reached, opened as reached-opening, called, after}
 use Rattle.book.specs.Demand3.{Holds}
 use Rattle.book.proofs.laws.Counting.{by_pick}
 use Rattle.book.proofs.laws.Demand.{demand_3}
-use Rattle.reader.specs.declared.lines.OpeningLine.{OpeningLine}
+use Rattle.reader.specs.declared.lines.BadLine.{BadLine}
+use Rattle.reader.specs.declared.lines.Opening.{Opening}
 use Rattle.reader.specs.Numbers.{numbers, numbers_on}
 use Rattle.reader.specs.Lines.{lines, line_length, opening_of, opening_line_of}
 use Rattle.text.specs.Print.{Put, answer_line}
 use Rattle.text.specs.Ledger.{ledger}
-use Rattle.reader.proofs.Cutting.{end_within, line_first}
+use Rattle.reader.proofs.Cutting.{cut_some}
 use Rattle.text.proofs.Printing.{put_then}
-use Rattle.running.specs.declared.Ran.{Ran}
-use Rattle.running.specs.Later.{calls_of, Followed}
+use Rattle.running.specs.Later.{answers, calls_of}
 use Rattle.session.specs.Session.{told, opened, first, later, line_one, session, outcome, Demanded, Delivered}
 
--- ---- line one, and the place e after it
+-- ---- line one
 
 pub too_long : (s : List ℕ) → 65_536 < length s → refuse 26 no_book ≡ line_one s
 unfolding line_one
 too_long s h = rw (lt-ltb _ _ h)
 
-pub first_within : (s : List ℕ) (e : ℕ) → e ≡ 0 + line_length (drop 0 s) → e ≤ length s
-unfolding line_length
-first_within [] e p = omega arith
-first_within (x ∷ s) e p = end_within (x ∷ s) 0 e (omega arith) p
-
-first_later : (s : List ℕ) (e : ℕ) → e ≡ 0 + line_length (drop 0 s) → later (lines s) ≡ lines (drop e s)
-unfolding lines line_length
-first_later [] e p = let z : e ≡ 0 = omega arith in rw z
-first_later (x ∷ s) e p = ap later (line_first (x ∷ s) 0 e (omega arith) p)
-
-pub first_line : (s : List ℕ) (e : ℕ) → e ≡ 0 + line_length (drop 0 s) → length s ≤ 65_536 → (l : OpeningLine) → l ≡ opening_line_of (take e s) → opened l ≡ line_one s
+-- what the first line says
+pub first_line : (s : List ℕ) → length s ≤ 65_536 → (l : Result Opening BadLine) → l ≡ opening_line_of (take (line_length s) s) → opened l ≡ line_one s
 unfolding lines line_length line_one numbers numbers_on opening_of opening_line_of
-first_line [] e p h l q = let z : e ≡ 0 = omega arith in rw (q, z)
-first_line (x ∷ s) e p h l q = rw (le-ltb _ _ h, q) (rw sub-zero at (sym (ap first (line_first (x ∷ s) 0 e (omega arith) p))))
+first_line [] h l q = rw q
+first_line (x ∷ s) h l q = rw (le-ltb _ _ h, q) (sym (ap first (cut_some (x ∷ s) (omega arith)).first))
+
+pub first_later : (s : List ℕ) → lines (drop (line_length s) s) ≡ later (lines s)
+unfolding lines line_length
+first_later [] = refl
+first_later (x ∷ s) = sym (ap later (cut_some (x ∷ s) (omega arith)).first)
 
 -- ---- an accepted line one
 
@@ -58,62 +47,54 @@ by_opening : (P : Outcome → Type 0) → ((kind t r p : ℕ) → is_accepted (o
 by_opening P f [] h = absurd (true≢false (sym h))
 by_opening P f (l ∷ ls) h = go (opening_line_of l) h
   where
-    go : (o : OpeningLine) → is_accepted (opened o).answer ≡ true → P (opened o)
-    go OpeningLine.Bad a = absurd (true≢false (sym a))
-    go (OpeningLine.Open kind t r p) a = f kind t r p a
+    go : (o : Result Opening BadLine) → is_accepted (opened o).answer ≡ true → P (opened o)
+    go (Err e) a = absurd (true≢false (sym a))
+    go (Ok o) a = f o.kind o.tonnes o.rate o.price a
 
 -- demand 3 of the calls that any input's lines are
 pub demanded : (ls : List (List ℕ)) → Demanded ls
 demanded ls = by_opening (λ (o : Outcome). Holds o.book (calls_of (later ls)) (after o.book (calls_of (later ls)))) (λ kind t r p a. demand_3 kind t r p a (calls_of (later ls))) ls
 
 -- of an input that is not too long, and its book is reached
-pub record Begun (s : List ℕ) (o : Outcome) : Type 0 where
+pub record Begun (s : List ℕ) (b : Book) : Type 0 where
   pub few : length s ≤ 65_536
-  pub reached : Reached o.book
+  pub reached : Reached b
 
-begun : (s : List ℕ) → is_accepted (line_one s).answer ≡ true → Begun s (line_one s)
+begun : (s : List ℕ) → is_accepted (line_one s).answer ≡ true → Begun s (line_one s).book
 unfolding line_one
-begun s = by_pick (λ (o : Outcome). is_accepted o.answer ≡ true → Begun s o) (ltb 65_536 (length s))
+begun s = by_pick (λ (o : Outcome). is_accepted o.answer ≡ true → Begun s o.book) (ltb 65_536 (length s))
     (λ _ a. absurd (true≢false (sym a)))
     (λ h a. record { few = ltb-false _ _ h; reached = by_opening (λ (o : Outcome). Reached o.book) reached-opening (lines s) a })
 
-after_reached : {b : Book} (cs : List Call) → Reached b → Reached (after b cs)
+pub after_reached : {b : Book} (cs : List Call) → Reached b → Reached (after b cs)
 unfolding after
 after_reached {b = b} [] h = h
 after_reached {b = b} (c ∷ cs) h = after_reached {b = (step b c).book} cs (called c h)
 
-pub followed_reached : {ls : List (List ℕ)} {b : Book} {wanted : Bool} {x y : List ℕ} {at end : ℕ} {r : Ran} → Followed ls b wanted x y at end r → Reached b → Reached r.book
-followed_reached {ls} f h = rw f.book (after_reached (calls_of ls) h)
+-- ---- the whole, from line one on
 
--- ---- the whole, from line one's outcome o on
-
-module _ (s : List ℕ) (o : Outcome) (e : o ≡ line_one s) where
-  pub has_begun : {n : ℕ} → o.answer ≡ Answer.Accepted n → Begun s o
-  has_begun a = rw e (begun s (rw (← e, ap is_accepted a) refl))
-
-  is_session : (c : Bool) → is_accepted o.answer ≡ c → session s ≡ answer_line o.answer ++ pick c (told o.book (later (lines s))) []
+module _ (s : List ℕ) (n : ℕ) (e : refuse n no_book ≡ line_one s) where
+  pub refused_put : {x y : List ℕ} {v : ℕ} → Put x y 0 v (answer_line (Answer.Refused n)) → Put x y 0 v (session s)
   unfolding session
-  is_session c h = rw (← e, h)
+  refused_put f = rw (← e, append-nil (answer_line (Answer.Refused n))) f
 
-  is_outcome : (c : Bool) → is_accepted o.answer ≡ c → outcome s ≡ pick c (accept 0 (after o.book (calls_of (later (lines s))))) o
+  pub refused_outcome : refuse n no_book ≡ outcome s
   unfolding outcome
-  is_outcome c h = rw (← e, h)
+  refused_outcome = rw (← e)
 
-  module _ {n : ℕ} (a : o.answer ≡ Answer.Refused n) where
-    pub refused_put : {x y : List ℕ} {v : ℕ} → Put x y 0 v (answer_line o.answer) → Put x y 0 v (session s)
-    refused_put f = rw (is_session false (ap is_accepted a), append-nil (answer_line o.answer)) f
+module _ (s : List ℕ) {b : Book} (e : accept 0 b ≡ line_one s) where
+  pub has_begun : Begun s b
+  has_begun = rw (ap (λ (o : Outcome). o.book) e) (begun s (rw (← e) refl))
 
-    pub refused_outcome : o ≡ outcome s
-    refused_outcome = sym (is_outcome false (ap is_accepted a))
+  -- the lines after line one were run
+  module _ (l : List ℕ) {b' : Book} (p : lines l ≡ later (lines s)) (q : b' ≡ after b (calls_of (lines l))) where
+    pub accepted_put : {x y z out : List ℕ} {w v r : ℕ} → Put x y 0 w (answer_line (Answer.Accepted 0)) → Put y z w v (answers b (lines l)) → Put z out v r (ledger b') → Put x out 0 r (session s)
+    unfolding session told
+    accepted_put f g h = rw (← e, ← p) (put_then f (put_then g (rw q at h)))
 
-  -- the lines after line one were run, with their answers and without
-  module _ {n k : ℕ} (a : o.answer ≡ Answer.Accepted n) (p : k ≡ 0 + line_length (drop 0 s)) {w end : ℕ} {y z : List ℕ} {r : Ran} where
-    pub accepted_put : {x out : List ℕ} {v : ℕ} → Put x y 0 w (answer_line o.answer) → Followed (lines (drop k s)) o.book true y z w end r → Put z out r.at v (ledger r.book) → Put x out 0 v (session s)
-    unfolding told
-    accepted_put f g h = rw (is_session true (ap is_accepted a), first_later s k p) (put_then f (put_then g.text (rw g.book at h)))
-
-    pub accepted_outcome : Followed (lines (drop k s)) o.book false y z w end r → accept 0 r.book ≡ outcome s
-    accepted_outcome g = rw (is_outcome true (ap is_accepted a), first_later s k p, g.book)
+    pub accepted_outcome : accept 0 b' ≡ outcome s
+    unfolding outcome
+    accepted_outcome = rw (← e, ← p, q)
 
 -- who wrote a session's output from the start has delivered it
 pub delivered : {s x out : List ℕ} {r : ℕ} → Put x out 0 r (session s) → Delivered s x out r
@@ -128,5 +109,5 @@ outcome_led s = by_pick (λ (o : Outcome). is_accepted o.answer ≡ true → Rea
     (λ a _. after_reached (calls_of (later (lines s))) (begun s a).reached)
     (λ a h. absurd (true≢false (sym h ∙ a)))
 
-pub outcome_reached : (s : List ℕ) (o : Outcome) → o ≡ outcome s → {n : ℕ} → o.answer ≡ Answer.Accepted n → Reached o.book
-outcome_reached s o e a = rw e (outcome_led s (rw (← e, ap is_accepted a) refl))
+pub outcome_reached : (s : List ℕ) {b : Book} → accept 0 b ≡ outcome s → Reached b
+outcome_reached s e = rw (ap (λ (o : Outcome). o.book) e) (outcome_led s (rw (← e) refl))

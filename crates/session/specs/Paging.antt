@@ -1,5 +1,5 @@
 -- The page program of document 02's Job 1: the page of the book after a session. Assumes nothing.
-use Rattle.std.specs.Prelude.{◌≡◌, List, ℕ, ◌≤◌, ltb, length, take}
+use Rattle.std.specs.Prelude.{◌≡◌, List, ℕ, ◌≤◌, ltb, length, take, Option, Some, None, IfSome}
 use Rattle.coal.specs.Choice.{pick}
 use Rattle.book.specs.Answers.{is_accepted}
 use Rattle.reader.specs.Lines.{lines}
@@ -15,15 +15,15 @@ page_output s = pick (is_accepted (outcome s).answer) (page (outcome s).book) (a
 abbrev pub page_room : ℕ
 page_room = 22_468
 
--- how many bytes of a text are written into a lent buffer: all, or none where it is too short
-unfoldable pub lent_count : List ℕ → List ℕ → ℕ
-lent_count t before = pick (ltb (length before) (length t)) 0 (length t)
+-- how many bytes of a text are written into a lent buffer: all; none, where it is too short
+unfoldable pub lent_count : List ℕ → List ℕ → Option ℕ
+lent_count t before = pick (ltb (length before) (length t)) None (Some (length t))
 
 -- the output is written into a lent buffer of any length, and r says how many bytes; demand 3 holds of the calls that led to the book
-pub record Paged (input before out : List ℕ) (r : ℕ) : Type 0 where
-  pub within : r ≤ length out
-  pub counted : r ≡ length (take r out)
+pub record Paged (input before out : List ℕ) (r : Option ℕ) : Type 0 where
+  pub within : IfSome r (λ n. n ≤ length out)
+  pub counted : IfSome r (λ n. n ≡ length (take n out))
   pub count : r ≡ lent_count (page_output input) before
   pub text : out ≡ lent (page_output input) before
-  pub enough : page_room ≤ length before → r ≡ length (page_output input)
+  pub enough : page_room ≤ length before → r ≡ Some (length (page_output input))
   pub demanded : Demanded (lines input)

@@ -1,5 +1,5 @@
 -- The session program: from the bytes of its input to the bytes of its output. Assumes nothing.
-use Rattle.std.specs.Prelude.{◌≡◌, true, List, [], ◌∷◌, ◌++◌, ℕ, ◌≤◌, ltb, length, take, drop}
+use Rattle.std.specs.Prelude.{◌≡◌, true, List, [], ◌∷◌, ◌++◌, ℕ, ◌≤◌, ltb, length, take, drop, Result, Ok, Err}
 use Rattle.coal.specs.Choice.{pick}
 use Rattle.book.specs.declared.tables.Book.{Book}
 use Rattle.book.specs.Outcomes.{Outcome}
@@ -7,7 +7,8 @@ use Rattle.book.specs.Answers.{refuse, accept, is_accepted}
 use Rattle.book.specs.Opening.{opening, no_book}
 use Rattle.book.specs.Lists.{after}
 use Rattle.book.specs.Demand3.{Holds}
-use Rattle.reader.specs.declared.lines.OpeningLine.{OpeningLine}
+use Rattle.reader.specs.declared.lines.BadLine.{BadLine}
+use Rattle.reader.specs.declared.lines.Opening.{Opening}
 use Rattle.reader.specs.Lines.{lines, opening_line_of}
 use Rattle.text.specs.Print.{answer_line}
 use Rattle.text.specs.Ledger.{ledger}
@@ -20,9 +21,9 @@ told b ls = answers b ls ++ ledger (after b (calls_of ls))
 -- ---- line one
 
 -- "Line one is `0 kind T R price`"; "26 a line not of the form"
-abbrev pub opened : OpeningLine → Outcome
-opened (OpeningLine.Open kind t r p) = opening kind t r p
-opened OpeningLine.Bad = refuse 26 no_book
+abbrev pub opened : Result Opening BadLine → Outcome
+opened (Ok o) = opening o.kind o.tonnes o.rate o.price
+opened (Err e) = refuse 26 no_book
 
 -- the first line of an input, and the later ones; "Empty input prints `no 26`"
 abbrev pub first : List (List ℕ) → Outcome

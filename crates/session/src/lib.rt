@@ -19,7 +19,7 @@ fn line_one(input: &[u8]) -> Result<Book, Refusal>
     if 65_536 < input.len() {
         return Err(Refusal::BadLine);
     }
-    let line = &input[..reader::line_end(input, 0)];
+    let line = &input[..reader::line_length(input)];
     let Ok(terms) = reader::read_opening(line) else {
         return Err(Refusal::BadLine);
     };
@@ -31,7 +31,7 @@ fn later_lines(input: &[u8]) -> &[u8]
     ensures within { length result.now ≤ length input.now }
     ensures lines { lines result.now ≡ later (lines input.now) }
 {
-    &input[reader::line_end(input, 0)..]
+    &input[reader::line_length(input)..]
 }
 
 // "It reads standard input": the output of a session, for every input, written from the start of `out`; how many bytes it has.
