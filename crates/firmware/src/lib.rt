@@ -1,8 +1,7 @@
 // The interface for C: include/delivery.h declares what is exported here.
 #![tactic(auto)]
 
-ghost use Rattle.session.specs.Paging.{Paged};
-ghost use Rattle.firmware.specs.Served.{Served, Tabled};
+ghost use Rattle.firmware.specs.Served.{Served, PageServed, Tabled};
 
 // A session from a buffer to a buffer: how many bytes were written, or 0, with nothing written, where the output has less room than every session needs.
 #[unsafe(no_mangle)]
@@ -18,9 +17,9 @@ pub extern "C" fn delivery_session(input: &[u8], out: &mut [u8]) -> usize
 // The ledger page of the book after a session, or `no n` where its line one is refused: how many bytes were written, or 0, with nothing written, where the output is too short.
 #[unsafe(no_mangle)]
 pub extern "C" fn delivery_page(input: &[u8], out: &mut [u8]) -> usize
-    ensures { Paged input.now out.old out.new result }
+    ensures { PageServed input.now out.old out.new result }
 {
-    session::page(input, out)
+    session::page(input, out).unwrap_or(0)
 }
 
 // The heat table of document 02's Job 9, one number to a line: how many bytes were written, or 0, with nothing written, where the output is too short.

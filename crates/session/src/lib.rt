@@ -2,6 +2,7 @@
 #![tactic(auto)]
 
 ghost use Rattle.std.specs.Prelude.{◌≡◌, ◌≤◌, length};
+ghost use Rattle.book.specs.Outcomes.{Answer};
 ghost use Rattle.book.specs.Opening.{opened};
 ghost use Rattle.book.specs.Answers.{refusal_number};
 ghost use Rattle.reader.specs.Lines.{lines};
@@ -60,7 +61,8 @@ fn outcome(input: &[u8]) -> Result<Book, Refusal>
 
 // A refusal's line, at the front of a lent buffer: how many bytes it has; none, and nothing is written, where the buffer is too short.
 fn lend_refusal(out: &mut [u8], refusal: Refusal) -> Option<usize>
-    ensures { Lent (answer_line (Answer.Refused (refusal_number refusal))) out.old out.new result }
+    ensures count { result ≡ lent_count (answer_line (Answer.Refused (refusal_number refusal))) out.old }
+    ensures text { out.new ≡ lent (answer_line (Answer.Refused (refusal_number refusal))) out.old }
 {
     let mut line = [0; 24];
     let w = text::put_answer(&mut line, 0, Err(refusal));
@@ -76,7 +78,7 @@ pub fn page(input: &[u8], out: &mut [u8]) -> Option<usize>
     ensures { Paged input.now out.old out.new result }
 {
     match outcome(input) {
-        Ok(book) => columns::put_page(out, &book).ok().map(|n| n as usize),
+        Ok(book) => columns::put_page(out, &book).ok(),
         Err(refusal) => lend_refusal(out, refusal),
     }
 }
