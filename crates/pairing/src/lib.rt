@@ -28,7 +28,7 @@ fn freeze(lodged: &mut [Receipt], bonded: bool, seller: u64, number: u64, units:
 }
 
 // "takes the units off both sides; .. In a receipts book it freezes the seller's lowest-numbered free receipts": the next match, due in some days.
-#[tactic(auto, using(reached::specs::Needs::calls, crate::proofs::Freezing::first_frozen), unfolding(book::specs::Pairing::pair, book::specs::Pairing::freeze))]
+#[tactic(auto, using(crate::proofs::Freezing::first_frozen), unfolding(book::specs::Pairing::pair, book::specs::Pairing::freeze))]
 pub fn pair(book: &mut Book, bonded_only: bool, days: u64, buyer: u64, seller: u64, units: u64)
     requires buyer_bound { buyer < 32 }
     requires seller_bound { seller < 32 }
