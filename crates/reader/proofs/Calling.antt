@@ -1,53 +1,67 @@
 -- The numbers of a line as a call, or as the opening, by how many they are. Assumes nothing.
-use Prim.Native.Nat.{ℕ, zero, suc, ◌≤◌, ◌<◌}
+use Prim.Native.Nat.{ℕ}
 use native.Mathlib.Omega.{arith}
-use mathlib.Core.Path.{◌≡◌}
+use mathlib.Core.Path.{◌≡◌, refl}
 use mathlib.Core.List.{List, [], ◌∷◌}
 use lib.Dec.{eqb}
-use lib.ListN.{length, get_or, take}
-use lib.Seq.{ext_get_or}
+use lib.ListN.{length, get_or}
+use borrow.Author.Tests.{ne_eqb}
+use Rattle.std.specs.Prelude.{Result, Ok, Err}
+use Rattle.std.specs.Result.{IsErr}
 use Rattle.coal.specs.Choice.{pick}
 use Rattle.book.specs.declared.calls.Call.{Call}
-use Rattle.reader.specs.declared.lines.Line.{Line}
-use Rattle.reader.specs.declared.lines.OpeningLine.{OpeningLine}
-use Rattle.reader.specs.Lines.{call_of, opening_of, one_argument, two_arguments, three_arguments}
+use Rattle.book.specs.Codes.{sample}
+use Rattle.reader.specs.declared.lines.BadLine.{BadLine}
+use Rattle.reader.specs.declared.lines.Opening.{Opening}
+use Rattle.reader.specs.Numbers.{numbers}
+use Rattle.reader.specs.Lines.{bad, call_of, line_of, opening_of, opening_line_of, one_argument, two_arguments, three_arguments}
 
--- what holds of each number below m
-abbrev Each : ℕ → (ℕ → Type 0) → Type 0
-Each zero P = Unit {0}
-Each (suc m) P = P 0 × Each m (λ n. P (suc n))
-
-each_below : (m : ℕ) (P : ℕ → Type 0) → Each m P → (n : ℕ) → n < m → P n
-each_below zero P a n h = absurd (omega arith)
-each_below (suc m) P a zero h = a.0
-each_below (suc m) P a (suc n) h = each_below m (λ k. P (suc k)) a.1 n (omega arith)
-
--- the elements of a list of eight
-eight : List ℕ → List ℕ
-eight l = get_or l 0 0 ∷ get_or l 1 0 ∷ get_or l 2 0 ∷ get_or l 3 0 ∷ get_or l 4 0 ∷ get_or l 5 0 ∷ get_or l 6 0 ∷ get_or l 7 0 ∷ []
-
-is_eight : (l : List ℕ) → length l ≡ 8 → l ≡ eight l
-unfolding eight
-is_eight l h = ext_get_or 0 l (eight l) h (λ i k. each_below 8 (λ (n : ℕ). get_or l n 0 ≡ get_or (eight l) n 0) (search) i (omega arith))
-
--- the call, or the opening, that the first n of a list's numbers are
-abbrev pub call_by : List ℕ → ℕ → Line
+-- the call, or the opening, that n numbers are
+abbrev pub call_by : List ℕ → ℕ → Result Call BadLine
 call_by l n =
-    pick (eqb n 1) (pick (eqb (get_or l 0 0) 12) (Line.Run Call.Close) Line.Bad)
+    pick (eqb n 1) (pick (eqb (get_or l 0 0) 12) (Ok Call.Close) bad)
     (pick (eqb n 2) (one_argument (get_or l 0 0) (get_or l 1 0))
     (pick (eqb n 3) (two_arguments (get_or l 0 0) (get_or l 1 0) (get_or l 2 0))
     (pick (eqb n 4) (three_arguments (get_or l 0 0) (get_or l 1 0) (get_or l 2 0) (get_or l 3 0))
-    (pick (eqb n 8) (pick (eqb (get_or l 0 0) 14) (Line.Run (Call.Measure (get_or l 1 0) (get_or l 2 0) (get_or l 3 0) (get_or l 4 0) (get_or l 5 0) (get_or l 6 0) (get_or l 7 0))) Line.Bad)
-    Line.Bad))))
+    (pick (eqb n 8) (pick (eqb (get_or l 0 0) 14) (Ok (Call.Measure (get_or l 1 0) (sample (get_or l 2 0) (get_or l 3 0) (get_or l 4 0) (get_or l 5 0) (get_or l 6 0) (get_or l 7 0)))) bad)
+    bad))))
 
-abbrev pub opening_by : List ℕ → ℕ → OpeningLine
-opening_by l n = pick (eqb n 5) (pick (eqb (get_or l 0 0) 0) (OpeningLine.Open (get_or l 1 0) (get_or l 2 0) (get_or l 3 0) (get_or l 4 0)) OpeningLine.Bad) OpeningLine.Bad
+abbrev pub opening_by : List ℕ → ℕ → Result Opening BadLine
+opening_by l n = pick (eqb n 5) (pick (eqb (get_or l 0 0) 0) (Ok (record { kind = get_or l 1 0; tonnes = get_or l 2 0; rate = get_or l 3 0; price = get_or l 4 0 })) bad) bad
 
-module _ (l : List ℕ) (n : ℕ) (h : length l ≡ 8) (k : n ≤ 8) where
-  pub call_counted : call_of (take n l) ≡ call_by l n
-  unfolding call_of eight
-  call_counted = rw (is_eight l h) (each_below 9 (λ (m : ℕ). call_of (take m (eight l)) ≡ call_by (eight l) m) (search) n (omega arith))
+pub call_counted : (l : List ℕ) → call_of l ≡ call_by l (length l)
+unfolding call_of
+call_counted [] = refl
+call_counted (k ∷ []) = refl
+call_counted (k ∷ x ∷ []) = refl
+call_counted (k ∷ x ∷ y ∷ []) = refl
+call_counted (k ∷ x ∷ y ∷ z ∷ []) = refl
+call_counted (k ∷ x ∷ y ∷ z ∷ u ∷ []) = refl
+call_counted (k ∷ x ∷ y ∷ z ∷ u ∷ v ∷ []) = refl
+call_counted (k ∷ x ∷ y ∷ z ∷ u ∷ v ∷ w ∷ []) = refl
+call_counted (k ∷ j ∷ w ∷ q ∷ m ∷ s ∷ f ∷ a ∷ []) = refl
+call_counted (k ∷ j ∷ w ∷ q ∷ m ∷ s ∷ f ∷ a ∷ n ∷ ns) = search (ne_eqb, arith)
 
-  pub opening_counted : opening_of (take n l) ≡ opening_by l n
-  unfolding opening_of eight
-  opening_counted = rw (is_eight l h) (each_below 9 (λ (m : ℕ). opening_of (take m (eight l)) ≡ opening_by (eight l) m) (search) n (omega arith))
+pub opening_counted : (l : List ℕ) → opening_of l ≡ opening_by l (length l)
+unfolding opening_of
+opening_counted [] = refl
+opening_counted (k ∷ []) = refl
+opening_counted (k ∷ x ∷ []) = refl
+opening_counted (k ∷ x ∷ y ∷ []) = refl
+opening_counted (k ∷ x ∷ y ∷ z ∷ []) = refl
+opening_counted (k ∷ kind ∷ t ∷ r ∷ p ∷ []) = refl
+opening_counted (k ∷ kind ∷ t ∷ r ∷ p ∷ n ∷ ns) = search (ne_eqb, arith)
+
+-- a number that is none of a call's
+pub ruleset counted = (call_counted, ne_eqb)
+
+-- a line without numbers
+pub bad_line : (r : Result Call BadLine) (s : List ℕ) → IsErr r → numbers s ≡ [] → r ≡ line_of s
+unfolding line_of call_of
+bad_line (Ok c) s h e = cc
+bad_line (Err x) s h e = rw e refl
+
+pub bad_opening : (r : Result Opening BadLine) (s : List ℕ) → IsErr r → numbers s ≡ [] → r ≡ opening_line_of s
+unfolding opening_line_of opening_of
+bad_opening (Ok o) s h e = cc
+bad_opening (Err x) s h e = rw e refl

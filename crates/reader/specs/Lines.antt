@@ -1,9 +1,10 @@
 -- The lines of a text, and what a line says: a call, or the opening. Assumes nothing.
-use Rattle.std.specs.Prelude.{List, [], ◌∷◌, ℕ, ◌+◌, eqb}
+use Rattle.std.specs.Prelude.{List, [], ◌∷◌, ℕ, ◌+◌, eqb, Result, Ok, Err}
 use Rattle.coal.specs.Choice.{pick}
 use Rattle.book.specs.declared.calls.Call.{Call}
-use Rattle.reader.specs.declared.lines.Line.{Line}
-use Rattle.reader.specs.declared.lines.OpeningLine.{OpeningLine}
+use Rattle.book.specs.Codes.{sample}
+use Rattle.reader.specs.declared.lines.BadLine.{BadLine}
+use Rattle.reader.specs.declared.lines.Opening.{Opening}
 use Rattle.reader.specs.Numbers.{numbers}
 
 -- ---- a text, cut into lines
@@ -40,66 +41,70 @@ arguments (Call.Take buyer seller) = buyer ∷ seller ∷ []
 arguments (Call.Day p) = p ∷ []
 arguments Call.Close = []
 arguments (Call.Pay j) = j ∷ []
-arguments (Call.Measure j w q m s f a) = j ∷ w ∷ q ∷ m ∷ s ∷ f ∷ a ∷ []
+arguments (Call.Measure j x) = j ∷ x.weight ∷ x.quality.heat ∷ x.moisture ∷ x.quality.sulphur ∷ x.quality.volatiles ∷ x.quality.ash ∷ []
 arguments (Call.Invoice j) = j ∷ []
 arguments (Call.Terminate j party) = j ∷ party ∷ []
 arguments (Call.HandOver j) = j ∷ []
 arguments (Call.Auction j winner x) = j ∷ winner ∷ x ∷ []
 
-abbrev pub one_argument : ℕ → ℕ → Line
+-- "a line not of the form"
+abbrev pub bad : {A : Type 0} → Result A BadLine
+bad = Err (record {})
+
+abbrev pub one_argument : ℕ → ℕ → Result Call BadLine
 one_argument k x =
-    pick (eqb k 9) (Line.Run (Call.Retract x))
-    (pick (eqb k 11) (Line.Run (Call.Day x))
-    (pick (eqb k 13) (Line.Run (Call.Pay x))
-    (pick (eqb k 15) (Line.Run (Call.Invoice x))
-    (pick (eqb k 17) (Line.Run (Call.HandOver x))
-    Line.Bad))))
+    pick (eqb k 9) (Ok (Call.Retract x))
+    (pick (eqb k 11) (Ok (Call.Day x))
+    (pick (eqb k 13) (Ok (Call.Pay x))
+    (pick (eqb k 15) (Ok (Call.Invoice x))
+    (pick (eqb k 17) (Ok (Call.HandOver x))
+    bad))))
 
-abbrev pub two_arguments : ℕ → ℕ → ℕ → Line
+abbrev pub two_arguments : ℕ → ℕ → ℕ → Result Call BadLine
 two_arguments k x y =
-    pick (eqb k 1) (Line.Run (Call.Join x y))
-    (pick (eqb k 2) (Line.Run (Call.Deposit x y))
-    (pick (eqb k 3) (Line.Run (Call.Withdraw x y))
-    (pick (eqb k 5) (Line.Run (Call.Lodge x y))
-    (pick (eqb k 6) (Line.Run (Call.Strike x y))
-    (pick (eqb k 7) (Line.Run (Call.Declare x y))
-    (pick (eqb k 8) (Line.Run (Call.Offer x y))
-    (pick (eqb k 10) (Line.Run (Call.Take x y))
-    (pick (eqb k 16) (Line.Run (Call.Terminate x y))
-    Line.Bad))))))))
+    pick (eqb k 1) (Ok (Call.Join x y))
+    (pick (eqb k 2) (Ok (Call.Deposit x y))
+    (pick (eqb k 3) (Ok (Call.Withdraw x y))
+    (pick (eqb k 5) (Ok (Call.Lodge x y))
+    (pick (eqb k 6) (Ok (Call.Strike x y))
+    (pick (eqb k 7) (Ok (Call.Declare x y))
+    (pick (eqb k 8) (Ok (Call.Offer x y))
+    (pick (eqb k 10) (Ok (Call.Take x y))
+    (pick (eqb k 16) (Ok (Call.Terminate x y))
+    bad))))))))
 
-abbrev pub three_arguments : ℕ → ℕ → ℕ → ℕ → Line
+abbrev pub three_arguments : ℕ → ℕ → ℕ → ℕ → Result Call BadLine
 three_arguments k x y z =
-    pick (eqb k 4) (Line.Run (Call.Trade x y z))
-    (pick (eqb k 18) (Line.Run (Call.Auction x y z))
-    Line.Bad)
+    pick (eqb k 4) (Ok (Call.Trade x y z))
+    (pick (eqb k 18) (Ok (Call.Auction x y z))
+    bad)
 
 -- the call that a line's numbers are; "0 later is 26"
-unfoldable pub call_of : List ℕ → Line
-call_of [] = Line.Bad
-call_of (k ∷ []) = pick (eqb k 12) (Line.Run Call.Close) Line.Bad
+unfoldable pub call_of : List ℕ → Result Call BadLine
+call_of [] = bad
+call_of (k ∷ []) = pick (eqb k 12) (Ok Call.Close) bad
 call_of (k ∷ x ∷ []) = one_argument k x
 call_of (k ∷ x ∷ y ∷ []) = two_arguments k x y
 call_of (k ∷ x ∷ y ∷ z ∷ []) = three_arguments k x y z
-call_of (k ∷ x ∷ y ∷ z ∷ u ∷ []) = Line.Bad
-call_of (k ∷ x ∷ y ∷ z ∷ u ∷ v ∷ []) = Line.Bad
-call_of (k ∷ x ∷ y ∷ z ∷ u ∷ v ∷ w ∷ []) = Line.Bad
-call_of (k ∷ j ∷ w ∷ q ∷ m ∷ s ∷ f ∷ a ∷ []) = pick (eqb k 14) (Line.Run (Call.Measure j w q m s f a)) Line.Bad
-call_of (k ∷ j ∷ w ∷ q ∷ m ∷ s ∷ f ∷ a ∷ n ∷ ns) = Line.Bad
+call_of (k ∷ x ∷ y ∷ z ∷ u ∷ []) = bad
+call_of (k ∷ x ∷ y ∷ z ∷ u ∷ v ∷ []) = bad
+call_of (k ∷ x ∷ y ∷ z ∷ u ∷ v ∷ w ∷ []) = bad
+call_of (k ∷ j ∷ w ∷ q ∷ m ∷ s ∷ f ∷ a ∷ []) = pick (eqb k 14) (Ok (Call.Measure j (sample w q m s f a))) bad
+call_of (k ∷ j ∷ w ∷ q ∷ m ∷ s ∷ f ∷ a ∷ n ∷ ns) = bad
 
-unfoldable pub line_of : List ℕ → Line
+unfoldable pub line_of : List ℕ → Result Call BadLine
 line_of s = call_of (numbers s)
 
 -- ---- the opening: "Line one is `0 kind T R price`"
 
-unfoldable pub opening_of : List ℕ → OpeningLine
-opening_of [] = OpeningLine.Bad
-opening_of (k ∷ []) = OpeningLine.Bad
-opening_of (k ∷ x ∷ []) = OpeningLine.Bad
-opening_of (k ∷ x ∷ y ∷ []) = OpeningLine.Bad
-opening_of (k ∷ x ∷ y ∷ z ∷ []) = OpeningLine.Bad
-opening_of (k ∷ kind ∷ t ∷ r ∷ p ∷ []) = pick (eqb k 0) (OpeningLine.Open kind t r p) OpeningLine.Bad
-opening_of (k ∷ kind ∷ t ∷ r ∷ p ∷ n ∷ ns) = OpeningLine.Bad
+unfoldable pub opening_of : List ℕ → Result Opening BadLine
+opening_of [] = bad
+opening_of (k ∷ []) = bad
+opening_of (k ∷ x ∷ []) = bad
+opening_of (k ∷ x ∷ y ∷ []) = bad
+opening_of (k ∷ x ∷ y ∷ z ∷ []) = bad
+opening_of (k ∷ kind ∷ t ∷ r ∷ p ∷ []) = pick (eqb k 0) (Ok (record { kind = kind; tonnes = t; rate = r; price = p })) bad
+opening_of (k ∷ kind ∷ t ∷ r ∷ p ∷ n ∷ ns) = bad
 
-unfoldable pub opening_line_of : List ℕ → OpeningLine
+unfoldable pub opening_line_of : List ℕ → Result Opening BadLine
 opening_line_of s = opening_of (numbers s)

@@ -1,5 +1,6 @@
 -- The numbers of a line, read from its bytes. Assumes nothing.
-use Rattle.std.specs.Prelude.{Bool, true, false, List, [], ◌∷◌, ◌++◌, ℕ, ◌+◌, ◌-◌, ◌*◌, ltb, leb, eqb, length}
+use Rattle.std.specs.Prelude.{Bool, true, false, List, [], ◌∷◌, ◌++◌, ℕ, ◌+◌, ◌-◌, ◌*◌, ltb, leb, eqb, length, Option, None, Some, Result, Ok, Err}
+use Rattle.reader.specs.declared.lines.BadLine.{BadLine}
 use Rattle.coal.specs.Choice.{pick}
 
 -- "decimal": a byte from 0 to 9
@@ -9,6 +10,11 @@ is_digit b = pick (leb 48 b) (leb b 57) false
 -- "1 to 18 digits without leading zeros": whether a digit may follow d digits of the value v
 abbrev pub takes_digit : ℕ → ℕ → Bool
 takes_digit d v = pick (eqb d 0) true (pick (eqb v 0) false (ltb d 18))
+
+-- the same by the value alone: a number, where there is one yet, with one digit more
+abbrev pub with_digit : Option ℕ → ℕ → Result ℕ BadLine
+with_digit None c = Ok c
+with_digit (Some v) c = pick (eqb v 0) (Err (record {})) (pick (ltb v 100_000_000_000_000_000) (Ok (v * 10 + c)) (Err (record {})))
 
 -- whether a number of d digits may end, with n numbers before it: no line of the form has more than eight
 abbrev pub ends_number : ℕ → ℕ → Bool

@@ -4,4 +4,4 @@
 mod lines;
 mod numbers;
 
-pub use lines::{Line, OpeningLine, line_end, read_line, read_opening};
+pub use lines::{BadLine, Opening, line_length, read_line, read_opening};

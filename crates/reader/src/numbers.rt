@@ -1,88 +1,62 @@
 // The numbers of a line, read once from its first byte to its last.
-ghost use Rattle.std.specs.Prelude.{◌≡◌, ◌+◌, ◌≤◌, ◌<◌, length, take, drop, get_or};
-ghost use Rattle.reader.specs.Numbers.{numbers};
-ghost use Rattle.reader.specs.Numbers.{is_digit, takes_digit, ends_number, ends_line};
+ghost use Rattle.std.specs.Prelude.{◌≡◌, ◌≤◌, ◌<◌, ◌⊎◌, [], ◌∷◌, ◌++◌, IsSome, IsNone, IfSome, IfOk, OnOk, OnErr};
+ghost use Rattle.arrayvec.specs.ArrayVec.{array_vec_len};
+ghost use Rattle.reader.specs.Numbers.{numbers, with_digit};
 
-// The first `count` of the values are the numbers of a line; 0 of them where it is not of the form.
-#[derive(Clone, Copy)]
-pub struct Numbers {
-    pub values: [u64; 8],
-    pub count: usize,
-}
+use crate::lines::BadLine;
+use arrayvec::ArrayVec;
 
-fn is_digit(b: u8) -> bool
-    ensures { result ≡ is_digit b }
+// The least number of 18 digits.
+const EIGHTEEN_DIGITS: u64 = 100_000_000_000_000_000;
+
+// "1 to 18 digits without leading zeros": a number, where one has begun, with one digit more.
+fn with_digit(begun: Option<u64>, digit: u64) -> Result<u64, BadLine>
+    requires { digit ≤ 9 }
+    ensures { result ≡ with_digit begun digit }
 {
-    if 48 <= b { b <= 57 } else { false }
-}
-
-fn takes_digit(digits: u64, value: u64) -> bool
-    ensures { result ≡ takes_digit digits value }
-{
-    if digits == 0 {
-        true
-    } else if value == 0 {
-        false
-    } else {
-        digits < 18
+    match begun {
+        None => Ok(digit),
+        Some(0) => Err(BadLine),
+        Some(value) if value < EIGHTEEN_DIGITS => Ok(value * 10 + digit),
+        Some(_) => Err(BadLine),
     }
 }
 
-fn ends_number(digits: u64, count: usize) -> bool
-    ensures { result ≡ ends_number digits count }
+// A number ends, where one has begun, and is put with the others: a line of the form has no more than eight.
+fn push(numbers: &mut ArrayVec<u64, 8>, number: Option<u64>) -> Result<(), BadLine>
+    ensures ok { OnOk result (IfSome number (λ x. (array_vec_len numbers.old < 8) × (numbers.new.items ≡ numbers.old.items ++ x ∷ [])) × IsSome number) }
+    ensures bad { OnErr result (IsNone number ⊎ (array_vec_len numbers.old ≡ 8)) }
 {
-    if digits == 0 { false } else { count < 8 }
-}
-
-// Whether place `i` has a newline, and the line ends with it.
-#[tactic(auto, using(crate::proofs::Reading::at_end))]
-fn ends_line(line: &[u8], i: usize) -> bool
-    requires { i < length line.now }
-    ensures { result ≡ ends_line (get_or line.now i 0) (drop (i + 1) line.now) }
-{
-    if line[i] == 10 {
-        i + 1 == line.len()
-    } else {
-        false
-    }
-}
-
-#[tactic(auto, using(crate::proofs::Reading::read_few, crate::proofs::Reading::read_fewer, crate::proofs::Reading::read_long, crate::proofs::Reading::read_space, crate::proofs::Reading::read_stop, crate::proofs::Reading::read_none, crate::proofs::Reading::read_out), unfolding(crate::specs::Numbers::numbers))]
-pub fn read_numbers(line: &[u8]) -> Numbers
-    ensures { (take result.count result.values ≡ numbers line.now) × (result.count ≤ 8) }
-{
-    let mut values = [0u64; 8];
-    let bad = Numbers { values, count: 0 };
-    let mut count: usize = 0;
-    let mut digits: u64 = 0;
-    let mut value: u64 = 0;
-    let mut i: usize = 0;
-    while i < line.len() {
-        let b = line[i];
-        if is_digit(b) {
-            if takes_digit(digits, value) {
-                value = value * 10 + (b - 48) as u64;
-                digits += 1;
-                i += 1;
-                continue;
-            }
-            return bad;
+    match number {
+        Some(value) if !numbers.is_full() => {
+            numbers.push(value);
+            Ok(())
         }
-        if ends_number(digits, count) {
-            values[count] = value;
-            count += 1;
-            if b == 32 {
-                digits = 0;
-                value = 0;
-                i += 1;
-                continue;
-            }
-            if ends_line(line, i) {
-                return Numbers { values, count };
-            }
-            return bad;
-        }
-        return bad;
+        _ => Err(BadLine),
     }
-    bad
+}
+
+// The numbers of a line; "lines ended by one newline .. one space between".
+#[tactic(auto, using(crate::proofs::Reading::read))]
+pub fn read_numbers(line: &[u8]) -> Result<ArrayVec<u64, 8>, BadLine>
+    ensures read { IfOk result (λ v. v.items ≡ numbers line.now) }
+    ensures bad { OnErr result (numbers line.now ≡ []) }
+{
+    let [text @ .., b'\n'] = line else {
+        return Err(BadLine);
+    };
+    let mut numbers = ArrayVec::new();
+    let mut number = None;
+    for b in text {
+        match *b {
+            b'0'..=b'9' => number = Some(with_digit(number, u64::from(*b - b'0'))?),
+            b' ' => {
+                push(&mut numbers, number)?;
+                number = None;
+            }
+            _ => return Err(BadLine),
+        }
+    }
+    push(&mut numbers, number)?;
+    Ok(numbers)
 }
