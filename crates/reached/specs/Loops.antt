@@ -1,10 +1,12 @@
 -- Loops over numbers: what is left, done to the present state, is the whole, done to the first. Assumes nothing.
-use Rattle.std.specs.Prelude.{◌≡◌, refl, Bool, List, [], ◌∷◌, ◌++◌, length, take, drop, map, get_or, set, ℕ, zero, suc, ◌+◌, ◌-◌, ◌≤◌, ◌<◌}
-use Rattle.std.proofs.Common.{arith, ap, ◌∙◌, zero-add, append-nil}
+use Rattle.std.specs.Prelude.{◌≡◌, refl, Bool, true, false, List, [], ◌∷◌, ◌++◌, length, take, drop, map, get_or, set, ℕ, zero, suc, ◌+◌, ◌-◌, ◌≤◌, ◌<◌}
+use Rattle.std.proofs.Common.{arith, ap, ◌∙◌, zero-add, add-zero, add-one, append-nil}
+use Rattle.std.specs.List.{count_by}
+use Rattle.std.proofs.lemmas.List.Sums.{count_by_more_yes, count_by_more_no}
 use Rattle.std.proofs.Math.Seq.{take-length, drop-length}
 use Rattle.std.proofs.Math.Nat.{sub-zero}
 use Rattle.book.specs.Counting.{iter, tally, one_if}
-use Rattle.book.proofs.laws.Counting.{one_most}
+use Rattle.book.proofs.laws.Counting.{one_most, tally_zero, tally_last}
 
 pub more_left : (n i : ℕ) → i < n → n - i ≡ suc (n - (i + 1))
 more_left n i h = omega arith
@@ -74,3 +76,12 @@ module _ {p : ℕ → Bool} {n z i c : ℕ} (s : Counted p n z i c) where
   pub all_counted : n ≤ i → c ≡ z
   unfolding tally
   all_counted h = omega (arith, rw (none_left n i h) at s.same)
+
+-- a count of the first n rows of a table, by number and by the list
+pub rows_counted : {A : Type 0} (p : A → Bool) (l : List A) (d : A) (n : ℕ) → n ≤ length l → tally n 0 (λ i. p (get_or l i d)) ≡ count_by p (take n l)
+rows_counted p l d zero h = tally_zero _
+rows_counted p l d (suc n) h = rw (← add-one n) (go (rows_counted p l d n (omega arith)) (p (get_or l n d)) refl)
+  where
+    go : tally n 0 (λ i. p (get_or l i d)) ≡ count_by p (take n l) → (t : Bool) → p (get_or l n d) ≡ t → tally (n + 1) 0 (λ i. p (get_or l i d)) ≡ count_by p (take (n + 1) l)
+    go ih true e = rw (tally_last (λ i. p (get_or l i d)) n, count_by_more_yes p l n d (omega arith) e, ih, e)
+    go ih false e = rw (tally_last (λ i. p (get_or l i d)) n, count_by_more_no p l n d (omega arith) e, ih, e) (add-zero _)
