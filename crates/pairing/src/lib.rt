@@ -28,6 +28,7 @@ fn freeze(lodged: &mut [Receipt], bonded: bool, seller: u64, number: u64, units:
 }
 
 // "takes the units off both sides; .. In a receipts book it freezes the seller's lowest-numbered free receipts": the next match, due in some days.
+// `bonded_only` goes into one test of a receipt, and parties and units are a call's own: a closure or a struct would be made only to be taken apart here.
 #[tactic(auto, using(crate::proofs::Freezing::first_frozen), unfolding(book::specs::Pairing::pair, book::specs::Pairing::freeze))]
 pub fn pair(book: &mut Book, bonded_only: bool, days: u64, buyer: u64, seller: u64, units: u64)
     requires buyer_bound { buyer < 32 }

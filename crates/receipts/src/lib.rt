@@ -20,7 +20,7 @@ fn count_free(lodged: &[Receipt], bonded: bool, owner: u64) -> usize
         .count()
 }
 
-// How many free receipts an owner has, of the class meant.
+// How many free receipts an owner has, of the class meant. A closure in place of `bonded` would only repeat `is_free_of` at each caller.
 #[tactic(auto, using(crate::proofs::Rows::free_rows))]
 pub fn free_receipts(book: &Book, bonded: bool, owner: u64) -> u64
     requires { book.now.receipt_count ≤ 256 }
