@@ -70,7 +70,7 @@ pub fn free_again(book: &mut Book, number: u64)
     }
 }
 
-// "the receipts pass to the buyer, free"; a winner "takes the receipts"
+// "the receipts pass to the buyer, free"; a winner "takes the receipts". The loop of `free_again` with another step: one function of both would take a closure and its law, and is longer than the two.
 #[tactic(auto, using(reached::specs::Loops::none_turned, reached::specs::Loops::one_turned, reached::specs::Loops::all_turned), unfolding(book::specs::Settlement::pass_receipts, book::specs::Settlement::pass_turn))]
 fn pass_receipts(book: &mut Book, number: u64, taker: u8)
     requires count_bound { book.old.receipt_count ≤ 256 }
