@@ -1,134 +1,69 @@
 // Call 18: Auction.
 #![tactic(auto)]
 
-ghost use Rattle.std.specs.Prelude.{◌≡◌, ◌&&◌, ◌≤◌, ◌<◌, ltb, pos};
-ghost use Rattle.std.specs.Int.Signed.{lt_z};
-ghost use Rattle.book.specs.Answers.{refusal_of};
-ghost use Rattle.book.specs.Tables.{account_at, match_at};
-ghost use Rattle.book.specs.Settlement.{sold, unsold, auctioned, auction};
+ghost use Rattle.std.specs.Prelude.{◌≡◌, ◌≤◌, ◌<◌};
+ghost use Rattle.book.specs.Answers.{outcome};
+ghost use Rattle.book.specs.Settlement.{sold, unsold, auction};
 ghost use Rattle.book.specs.Lists.{Reached};
-ghost use Rattle.reached.specs.Places.{place};
 ghost use Rattle.payments.specs.Money.{most_paid, Due};
 
-use book::{Account, Answer, Book, Match, Outcome, Stage};
+use book::{Book, Match, Refusal, Stage};
 use coal::rounding::percent_down;
-use payments::{charge, free_again, handed, pay, set_stage, value};
+use payments::{ValuedMatch, charge, free_again, handed, pay, set_stage};
 
 // "the winner pays the proceeds to the buyer and takes the receipts, the seller gets 80% and the rest is held as before."
-#[tactic(auto, using(payments::specs::Money::money), unfolding(book::specs::Settlement::sold))]
-fn sold(book: Book, number: u64, m: Match, v: u64, winner: u64, proceeds: u64) -> Book
-    requires due { Due book number m v }
+#[tactic(auto, unfolding(book::specs::Settlement::sold, book::specs::Tables::charge))]
+fn sold(book: &mut Book, m: &ValuedMatch, winner: u8, proceeds: u64)
+    requires due { Due book.old m.now }
     requires winner_bound { winner < 32 }
     requires proceeds_le_most_paid { proceeds ≤ most_paid }
-    ensures { result ≡ sold book number m winner proceeds }
+    ensures { book.new ≡ sold book.old m.now.number m.now.row winner proceeds }
 {
-    let taker = rows::account_number(winner);
-    let charged = charge(book, taker, proceeds);
-    let paid = pay(charged, m.buyer, proceeds);
-    handed(paid, number, m, v, taker)
+    charge(book, winner, proceeds);
+    pay(book, m.row.buyer, proceeds);
+    handed(book, m, winner);
 }
 
 // "the buyer gets V back, pays the seller 20% of V, down, the match is ended and the receipts are freed"
-#[tactic(auto, using(payments::specs::Money::money), unfolding(book::specs::Settlement::unsold, book::specs::Settlement::free_again, book::specs::Tables::pay, book::specs::Tables::charge))]
-fn unsold(book: Book, number: u64, m: Match, v: u64) -> Book
-    requires { Due book number m v }
-    ensures { result ≡ unsold book number m v }
+#[tactic(auto, using(coal::proofs::laws::Bounds::percent_down_most), unfolding(book::specs::Settlement::unsold, book::specs::Settlement::free_again, book::specs::Tables::pay, book::specs::Tables::charge))]
+fn unsold(book: &mut Book, m: &ValuedMatch)
+    requires { Due book.old m.now }
+    ensures { book.new ≡ unsold book.old m.now.number m.now.row m.now.value }
 {
-    let part = percent_down(20, v);
-    let receipts = book.receipts;
-    let freed = free_again(receipts, book.receipt_count, number);
-    let returned = pay(book, m.buyer, v);
-    let charged = charge(returned, m.buyer, part);
-    let mut next = pay(charged, m.seller, part);
-    next.receipts = freed;
-    set_stage(next, number, 0, Stage::Ended)
+    let Match { buyer, seller, .. } = m.row;
+    let part = percent_down(20, m.value);
+    pay(book, buyer, m.value);
+    charge(book, buyer, part);
+    pay(book, seller, part);
+    set_stage(book, m.number, 0, Stage::Ended);
+    free_again(book, m.number);
 }
 
-// By the proceeds: "Proceeds of zero mean nobody bid".
-#[tactic(auto, unfolding(book::specs::Settlement::auctioned))]
-fn auctioned(book: Book, number: u64, m: Match, v: u64, winner: u64, proceeds: u64) -> Book
-    requires due { Due book number m v }
-    requires winner_bound { winner < 32 }
-    requires proceeds_le_most_paid { proceeds ≤ most_paid }
-    ensures { result ≡ auctioned book number m winner proceeds }
+// "Call 18 names match, winner and proceeds." "Proceeds of zero mean nobody bid": an Option in place of the 0 would be made here and taken apart here.
+#[tactic(auto, using(reached::specs::Needs::calls), unfolding(book::specs::Settlement::auction, book::specs::Settlement::auctioned))]
+pub fn auction(book: &mut Book, number: u64, winner: u64, proceeds: u64) -> Result<u64, Refusal>
+    requires { Reached book.old }
+    ensures { outcome result book.new ≡ auction book.old number winner proceeds }
 {
-    if proceeds == 0 {
-        return unsold(book, number, m, v);
-    }
-    sold(book, number, m, v, winner, proceeds)
-}
-
-// "the winner is overseas and proceeds are above zero"
-fn cannot_win(taker: Account, proceeds: u64) -> bool
-    ensures { result ≡ (ltb 0 proceeds && taker.overseas) }
-{
-    (0 < proceeds) & taker.overseas
-}
-
-// "proceeds are above zero and its cash is below them"
-fn cannot_pay(taker: Account, proceeds: u64) -> bool
-    requires { proceeds ≤ most_paid }
-    ensures { result ≡ (ltb 0 proceeds && lt_z taker.cash (pos proceeds)) }
-{
-    (0 < proceeds) & rows::cash_below(taker, proceeds)
-}
-
-// The number with which Auction is refused, by the rows at the places of the match and of the winner; 0 where it is accepted.
-#[tactic(auto, using(reached::specs::Places::account_found, reached::specs::Places::match_found, reached::specs::Needs::calls), unfolding(book::specs::Settlement::auction))]
-pub fn auction_refusal(
-    book: Book,
-    m: Match,
-    taker: Account,
-    number: u64,
-    winner: u64,
-    proceeds: u64,
-) -> u64
-    requires reached { Reached book }
-    requires m_value { m ≡ match_at book (place 256 number) }
-    requires taker_value { taker ≡ account_at book (place 32 winner) }
-    ensures { result ≡ refusal_of (auction book number winner proceeds).answer }
-{
-    if book.account_count as u64 <= winner {
-        return 6;
-    }
+    let taker = book.account_place(winner)?;
     if 1_000_000_000_000_000 < proceeds {
-        return 8;
+        return Err(Refusal::OutsideSet);
     }
-    if book.match_count as u64 <= number {
-        return 21;
+    let place = book.match_place(number)?;
+    if book.matches[place].stage != Stage::Awaiting {
+        return Err(Refusal::WrongStage);
     }
-    if !rows::is_awaiting(m) {
-        return 22;
+    if 0 < proceeds && book.accounts[taker].overseas {
+        return Err(Refusal::OverseasWinner);
     }
-    if cannot_win(taker, proceeds) {
-        return 29;
+    if 0 < proceeds && book.accounts[taker].has_below(proceeds) {
+        return Err(Refusal::AboveWinnersCash);
     }
-    if cannot_pay(taker, proceeds) {
-        return 30;
+    let m = ValuedMatch::of(book, number);
+    if proceeds == 0 {
+        unsold(book, &m);
+    } else {
+        sold(book, &m, taker as u8, proceeds);
     }
-    0
-}
-
-// "Call 18 names match, winner and proceeds."
-pub fn auction(book: Book, number: u64, winner: u64, proceeds: u64) -> Outcome
-    requires { Reached book }
-    ensures { result ≡ auction book number winner proceeds }
-{
-    let j = rows::match_place(number);
-    let m = book.matches[j];
-    let k = rows::account_place(winner);
-    let taker = book.accounts[k];
-    let refused = auction_refusal(book, m, taker, number, winner, proceeds);
-    if refused != 0 {
-        return Outcome {
-            answer: Answer::Refused(refused),
-            book,
-        };
-    }
-    let v = value(m, book.tonnes);
-    let next = auctioned(book, number, m, v, winner, proceeds);
-    Outcome {
-        answer: Answer::Accepted(0),
-        book: next,
-    }
+    Ok(0)
 }

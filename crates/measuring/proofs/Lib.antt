@@ -1,1 +1,1 @@
-pub mod Weighing
+pub mod Heat

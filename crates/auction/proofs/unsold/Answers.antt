@@ -1,7 +1,7 @@
--- After the charge there is room for the payment. Assumes nothing.
-use borrow.Author.Rules.{rules}
-use Rattle.payments.specs.Money.{money}
+-- After both payments there is room for the third. Assumes nothing.
+use Rattle.std.proofs.Common.{rules}
+use Rattle.payments.proofs.Money.{money}
 use Rattle.auction.proofs.unsold.Goals as goal
 
-pub pay-next-requires-clause-room : goal.pay-next-requires-clause-room
-pay-next-requires-clause-room c = search (rules, money)
+pub pay-requires-2-clause-room : goal.pay-requires-2-clause-room
+pay-requires-2-clause-room c = search (rules, money)
