@@ -2,78 +2,81 @@
 #![tactic(auto)]
 
 ghost use Rattle.std.specs.Prelude.{◌≡◌, ◌++◌, ◌+◌, ◌^◌, ◌≤◌, ◌<◌, length};
-ghost use Rattle.text.specs.Print.{Put, digits, with_sign};
+ghost use Rattle.text.specs.Print.{digits, with_sign};
+ghost use Rattle.text.specs.Printer.{HasRoom, Prints};
 ghost use Rattle.text.specs.Page.{spaces, right, yuan};
 
-use text::{last_digit, put_byte, put_bytes};
+use text::Printer;
 
-// So many spaces.
-#[tactic(auto, using(text::proofs::Printing::put_none, crate::proofs::Aligning::spaces_more, crate::proofs::Aligning::spaces_all, crate::proofs::Aligning::spaces_next))]
-pub fn put_spaces(out: &mut [u8], at: usize, n: usize) -> usize
-    requires { at + n ≤ length out.old }
-    ensures { Put out.old out.new at result (spaces n) × (result ≡ at + n) }
+pub fn print_spaces(printer: &mut Printer, n: usize)
+    requires { HasRoom printer.old n }
+    ensures printed { Prints printer.old printer.new (spaces n) }
+    ensures wide { printer.new.at ≡ printer.old.at + n }
 {
-    let mut w = at;
-    let mut i = 0;
-    while i < n {
-        w = put_byte(out, w, 32);
-        i += 1;
-    }
-    w
+    let end = printer.at + n;
+    printer.out[printer.at..end].fill(b' ');
+    printer.at = end;
 }
 
 // A word in a field.
-pub fn put_word(out: &mut [u8], at: usize, width: usize, word: &[u8]) -> usize
-    requires { (at + width ≤ length out.old) × (length word.now ≤ width) }
-    ensures { Put out.old out.new at result (right width word.now) × (result ≡ at + width) }
+pub fn print_word(printer: &mut Printer, width: usize, word: &[u8])
+    requires room { HasRoom printer.old width }
+    requires fits { length word.now ≤ width }
+    ensures printed { Prints printer.old printer.new (right width word.now) }
+    ensures wide { printer.new.at ≡ printer.old.at + width }
 {
-    let w = put_spaces(out, at, width - word.len());
-    put_bytes(out, w, word)
+    print_spaces(printer, width - word.len());
+    printer.bytes(word);
 }
 
-// A number in a field, with a sign directly before its digits.
-#[tactic(auto, using(text::proofs::Printing::digits_one, text::proofs::Printing::digits_longer))]
-fn put_right(out: &mut [u8], at: usize, width: usize, sign: &[u8], n: u64) -> usize
-    requires { (at + width ≤ length out.old) × (length sign.now + length (digits n) ≤ width) }
-    ensures { Put out.old out.new at result (right width (sign.now ++ digits n)) × (result ≡ at + width) }
+// How many digits a number has.
+#[tactic(auto, using(text::proofs::Printing::digits_one, text::proofs::Printing::digits_longer, text::proofs::Printing::digits_64))]
+fn digit_count(n: u64) -> usize
+    ensures count { result ≡ length (digits n) }
+    ensures few { result ≤ 20 }
 {
-    if n < 10 {
-        let w = put_word(out, at, width - 1, sign);
-        return put_byte(out, w, last_digit(n));
-    }
-    let w = put_right(out, at, width - 1, sign, n / 10);
-    put_byte(out, w, last_digit(n))
+    if n < 10 { 1 } else { 1 + digit_count(n / 10) }
 }
 
 // A number in a field that is wide enough for it.
 #[tactic(auto, using(text::proofs::Columns::digits_within))]
-pub fn put_field(out: &mut [u8], at: usize, width: usize, n: u64) -> usize
-    requires { (at + width ≤ length out.old) × (n < 10 ^ width) × (0 < width) }
-    ensures { Put out.old out.new at result (right width (digits n)) × (result ≡ at + width) }
+pub fn print_number(printer: &mut Printer, width: usize, n: u64)
+    requires room { HasRoom printer.old width }
+    requires fits { n < 10 ^ width }
+    requires some { 0 < width }
+    ensures printed { Prints printer.old printer.new (right width (digits n)) }
+    ensures wide { printer.new.at ≡ printer.old.at + width }
 {
-    put_right(out, at, width, b"", n)
+    print_spaces(printer, width - digit_count(n));
+    printer.digits(n);
 }
 
-// Fen in yuan with two decimals.
+// Fen in yuan with two decimals, after a sign.
 #[tactic(auto, using(crate::proofs::Aligning::yuan_short))]
-fn put_yuan(out: &mut [u8], at: usize, sign: &[u8], fen: u64) -> usize
-    requires { (at + 22 ≤ length out.old) × (length sign.now ≤ 1) }
-    ensures { Put out.old out.new at result (right 22 (sign.now ++ yuan fen)) × (result ≡ at + 22) }
+fn print_yuan(printer: &mut Printer, sign: &[u8], fen: u64)
+    requires room { HasRoom printer.old 22 }
+    requires short { length sign.now ≤ 1 }
+    ensures printed { Prints printer.old printer.new (right 22 (sign.now ++ yuan fen)) }
+    ensures wide { printer.new.at ≡ printer.old.at + 22 }
 {
-    let x = put_right(out, at, 19, sign, fen / 100);
-    let y = put_byte(out, x, 46);
-    let z = put_byte(out, y, last_digit(fen / 10));
-    put_byte(out, z, last_digit(fen))
+    let yuan = fen / 100;
+    print_spaces(printer, 19 - sign.len() - digit_count(yuan));
+    printer.bytes(sign);
+    printer.digits(yuan);
+    printer.byte(b'.');
+    printer.last_digit(fen / 10);
+    printer.last_digit(fen);
 }
 
 // Cash in yuan with two decimals, a minus sign directly before it where it is below zero.
-pub fn put_cash(out: &mut [u8], at: usize, cash: i64) -> usize
-    requires { at + 22 ≤ length out.old }
-    ensures { Put out.old out.new at result (right 22 (with_sign yuan cash)) × (result ≡ at + 22) }
+pub fn print_cash(printer: &mut Printer, cash: i64)
+    requires { HasRoom printer.old 22 }
+    ensures printed { Prints printer.old printer.new (right 22 (with_sign yuan cash)) }
+    ensures wide { printer.new.at ≡ printer.old.at + 22 }
 {
     if cash < 0 {
-        put_yuan(out, at, b"-", (-(cash + 1)) as u64 + 1)
+        print_yuan(printer, b"-", cash.unsigned_abs());
     } else {
-        put_yuan(out, at, b"", cash as u64)
+        print_yuan(printer, b"", cash as u64);
     }
 }

@@ -5,12 +5,14 @@ use Prim.Native.Nat.{ℕ, zero, suc, ◌+◌, ◌*◌, ◌/◌, ◌≤◌, ◌<�
 use native.Mathlib.Nat.{one-le-pow, pow-suc}
 use native.Mathlib.Omega.{arith}
 use lib.ListN.{length, get_or, length-append}
-use Rattle.heats.specs.Each.{each_at}
+use Rattle.heats.specs.Each.{each_at, each as each_number}
 use Rattle.heats.specs.Numerators.{numerator, heat_table, numerator_least, numerator_most}
-use Rattle.text.specs.Print.{Put, digits}
+use Rattle.text.specs.declared.print.Printer.{Printer}
+use Rattle.text.specs.Print.{digits}
+use Rattle.text.specs.Printer.{Prints}
 use Rattle.text.specs.Ledger.{each}
 use Rattle.text.specs.Page.{line}
-use Rattle.text.proofs.Printing.{digits_step, digits_short, digits_longer, rows_more}
+use Rattle.text.proofs.Printing.{digits_step, digits_short, digits_longer}
 use Rattle.heat_text.specs.Printed.{entry_line, printed_table}
 
 -- a number from 10 ^ k on has k + 1 digits or more
@@ -53,16 +55,19 @@ pub table_length : length printed_table ≡ 18_711
 unfolding printed_table
 table_length = each_length 11 1_701 0 (entry_line heat_table) (λ k g. line_length k (omega arith))
 
--- one line more, of a list that is the table
-pub line_more : {a b c l : List ℕ} {i j m : ℕ} (k : ℕ) → l ≡ heat_table → Put a b i j (each k 0 (entry_line heat_table)) → Put b c j m (line (digits (get_or l k 0)))
-    → Put a c i m (each (k + 1) 0 (entry_line heat_table))
-unfolding entry_line
-line_more k t p q = rows_more (entry_line heat_table) k p (rw t at q)
+numbers : (f : ℕ → ℕ) (n i : ℕ) → length (each_number f n i) ≡ n
+unfolding each_number
+numbers f zero i = refl
+numbers f (suc n) i = rw (numbers f n (suc i)) refl
 
--- all of its lines
-pub line_all : {a b : List ℕ} {i j : ℕ} (n : ℕ) → n ≤ 1_701 → 1_701 ≤ n → Put a b i j (each n 0 (entry_line heat_table)) → Put a b i j printed_table × (j ≡ i + 18_711)
-unfolding printed_table
-line_all {a} {b} {i} {j} n g h p =
-    let e : n ≡ 1_701 = omega arith in
-    let q : Put a b i j (each 1_701 0 (entry_line heat_table)) = rw e at p in
-    (q, omega (arith, q.next, table_length))
+many : length heat_table ≡ 1_701
+unfolding heat_table
+many = numbers numerator 1_701 4_300
+
+-- a list that is the table, printed: all of its lines
+pub table_printed : {a b : Printer} {l : List ℕ} → l ≡ heat_table → Prints a b (each (length l) 0 (λ k. line (digits (get_or l k 0)))) → Prints a b printed_table
+unfolding printed_table entry_line
+table_printed t p = rw (t, many) at p
+
+pub table_next : {a b : Printer} → Prints a b printed_table → b.at ≡ a.at + 18_711
+table_next p = omega (arith, p.put.next, table_length)

@@ -1,25 +1,28 @@
 -- Laws of what is printed: one writing after another, a number's digits, and one row more of a list. Assumes nothing.
-use Prim.Native.Nat.{ℕ, zero, suc, ◌+◌, ◌*◌, ◌^◌, ◌/◌, ◌%◌, ◌≤◌, ◌<◌}
+use Prim.Native.Nat.{ℕ, zero, suc, ◌+◌, ◌-◌, ◌*◌, ◌^◌, ◌/◌, ◌%◌, ◌≤◌, ◌<◌}
 use native.Mathlib.Omega.{arith}
 use native.Mathlib.Nat.{pow-suc}
 use native.Mathlib.Numerals.{add-one}
 use mathlib.Core.Path.{◌≡◌, refl, sym, ◌∙◌}
 use mathlib.Core.List.{List, [], ◌∷◌, ◌++◌, append_assoc, append-nil}
 use lib.Dec.{ltb}
-use lib.ListN.{length, take, drop, get_or, length-append}
-use lib.Seq.{take-suc, drop-drop}
+use borrow.Rule.Slice.PartMut.{put_mid}
+use Rattle.std.proofs.lemmas.List.{drop-set-lt, get_or-take, length-take, length-drop}
+use Rattle.std.proofs.lemmas.Slice.{take-put_mid, drop-put_mid}
+use lib.ListN.{length, take, drop, get_or, set, length-append}
+use lib.Seq.{take-suc, take-suc-set, drop-drop}
 use borrow.Author.Tests.{lt-ltb, le-ltb}
 use Rattle.coal.specs.Choice.{pick}
 use Rattle.book.proofs.laws.Counting.{by_pick}
 use Rattle.text.specs.Print.{Put, last_digits, digits, spaced}
+use Rattle.text.specs.declared.print.Printer.{Printer}
+use Rattle.text.specs.Printer.{Prints}
 use Rattle.text.specs.Ledger.{each}
 
--- what a loop of writers keeps, at its turn i of n: the text of i turns is written, each turn's at most so many bytes
-pub record Written (most : ℕ) (text : ℕ → List ℕ) (n : ℕ) (out₀ out : List ℕ) (at w i : ℕ) : Type 0 where
-  pub within : i ≤ n
-  pub room : w ≤ at + most * i
-  pub put : Put out₀ out at w (text i)
-  pub long : length out ≡ length out₀
+-- what a loop of printers keeps, at its turn i: the text of i turns is printed, each turn's at most so many bytes
+pub record Printed (most : ℕ) (text : ℕ → List ℕ) (before after : Printer) (i : ℕ) : Type 0 where
+  pub few : after.at ≤ before.at + most * i
+  pub printed : Prints before after (text i)
 
 -- two writings, one after the other
 pub put_then : {a b c x y : List ℕ} {i j k : ℕ} → Put a b i j x → Put b c j k y → Put a c i k (x ++ y)
@@ -31,9 +34,25 @@ put_then {a} {b} {c} {x} {y} {i} {j} {k} p q =
 pub put_none : (a : List ℕ) (i : ℕ) → Put a a i i []
 put_none a i = record { next = omega arith; text = sym (append-nil (take i a)); kept = refl }
 
--- one byte more of a list
-pub put_one : {a b c : List ℕ} {i j k : ℕ} (s : List ℕ) (n : ℕ) → n < length s → Put a b i j (take n s) → Put b c j k (get_or s n 0 ∷ []) → Put a c i k (take (n + 1) s)
-put_one s n h p q = rw (add-one n, take-suc s n 0 h) (put_then p q)
+-- a byte is set
+pub put_set : (a : List ℕ) (i d : ℕ) → i < length a → Put a (set a i d) i (i + 1) (d ∷ [])
+put_set a i d h = record { next = omega arith; text = rw (add-one i) (take-suc-set a i d h); kept = drop-set-lt (i + 1) a i d (omega arith) }
+
+-- a part is overwritten with just as many bytes
+module _ (a : List ℕ) (i k : ℕ) (x y : List ℕ) (e : y ≡ x) (l : length x ≡ k) (h : i + k ≤ length a) where
+  pub part_length : length (put_mid i (i + k - i) a y) ≡ length a
+  part_length = rw e (simp (length-append, length-take, length-drop) (omega arith))
+
+  pub put_part : Put a (put_mid i (i + k - i) a y) i (i + k) x
+  put_part = rw e (record { next = omega arith; text = take-put_mid i (i + k - i) a x (i + k) (omega arith) (omega arith); kept = drop-put_mid i (i + k - i) a x (i + k) (omega arith) (omega arith) (omega arith) })
+
+-- two printings, one after the other
+pub prints_then : {a b c : Printer} {x y : List ℕ} → Prints a b x → Prints b c y → Prints a c (x ++ y)
+prints_then p q = record { same = q.same ∙ p.same; long = q.long ∙ p.long; put = put_then p.put q.put }
+
+-- nothing is printed
+pub prints_none : (a : Printer) → Prints a a []
+prints_none a = record { same = refl; long = refl; put = put_none a.out.now a.at }
 
 -- ---- digits
 
@@ -84,9 +103,9 @@ spaced_last [] n = append-nil (32 ∷ digits n)
 spaced_last (m ∷ ns) n = rw (spaced_last ns n) (sym (append_assoc (32 ∷ digits m) (spaced ns) (32 ∷ digits n)))
 
 -- one number more
-pub spaced_more : {a b c : List ℕ} {i j k : ℕ} (ns : List ℕ) (n : ℕ) → n < length ns → Put a b i j (spaced (take n ns)) →
-    Put b c j k (32 ∷ digits (get_or ns n 0)) → Put a c i k (spaced (take (n + 1) ns))
-spaced_more ns n h p q = rw (add-one n, take-suc ns n 0 h, spaced_last) (put_then p q)
+pub spaced_more : {a b c : Printer} (ns : List ℕ) (n : ℕ) → n < length ns → Prints a b (spaced (take n ns)) →
+    Prints b c (32 ∷ digits (get_or ns n 0)) → Prints a c (spaced (take (n + 1) ns))
+spaced_more ns n h p q = rw (add-one n, take-suc ns n 0 h, spaced_last) (prints_then p q)
 
 -- ---- the rows of a table
 
@@ -96,9 +115,18 @@ each_last zero i f = let e : i + 0 ≡ i = omega arith in rw e (append-nil (f i)
 each_last (suc n) i f = let e : i + 1 + n ≡ i + suc n = omega arith in rw (each_last n (i + 1) f, e) (sym (append_assoc (f i) (each n (i + 1) f) (f (i + suc n))))
 
 -- one row more
-pub rows_more : {a b c : List ℕ} {i j k : ℕ} (f : ℕ → List ℕ) (n : ℕ) → Put a b i j (each n 0 f) → Put b c j k (f n) → Put a c i k (each (n + 1) 0 f)
-rows_more f n p q = let e : 0 + n ≡ n = omega arith in rw (add-one n, each_last n 0 f, e) (put_then p q)
+pub rows_more : {a b c : Printer} (f : ℕ → List ℕ) (n : ℕ) → Prints a b (each n 0 f) → Prints b c (f n) → Prints a c (each (n + 1) 0 f)
+rows_more f n p q = let e : 0 + n ≡ n = omega arith in rw (add-one n, each_last n 0 f, e) (prints_then p q)
 
--- all n rows, after their heading
-pub rows_all : {a b c x : List ℕ} {i j k : ℕ} (f : ℕ → List ℕ) (m n : ℕ) → m ≤ n → n ≤ m → Put a b i j x → Put b c j k (each m 0 f) → Put a c i k (x ++ each n 0 f)
-rows_all f m n g h p q = let e : n ≡ m = omega arith in rw e (put_then p q)
+-- texts that agree, place by place
+each_same : (n i : ℕ) (f g : ℕ → List ℕ) → ((k : ℕ) → k < i + n → f k ≡ g k) → each n i f ≡ each n i g
+unfolding each
+each_same zero i f g h = refl
+each_same (suc n) i f g h = rw (h i (omega arith), each_same n (i + 1) f g (λ k l. h k (omega arith))) refl
+
+-- a section of the first n rows of a table: a line with their number, and the rows
+pub section_taken : {a b : Printer} {A : Type 0} (head : ℕ → List ℕ) (f : ℕ → A → List ℕ) (d : A) (table rows : List A) (n : ℕ) → rows ≡ take n table → length rows ≡ n →
+    Prints a b (head (length rows) ++ each (length rows) 0 (λ k. f k (get_or rows k d))) → Prints a b (head n ++ each n 0 (λ k. f k (get_or table k d)))
+section_taken head f d table rows n e h p =
+    let same = each_same n 0 (λ k. f k (get_or rows k d)) (λ k. f k (get_or table k d)) (λ k l. rw (e, get_or-take n table k d (omega arith)) refl) in
+    rw (← same, ← h) p

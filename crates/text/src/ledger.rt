@@ -1,29 +1,34 @@
 // The ledger of a book: its accounts, receipts and matches, each section after its count, then the fund.
-ghost use Rattle.std.specs.Prelude.{◌≡◌, ◌+◌, ◌*◌, ◌≤◌, length};
+ghost use Rattle.std.specs.Prelude.{◌≡◌, ⊤, ℕ, ◌+◌, ◌*◌, ◌≤◌, ◌<◌, length, get_or};
 ghost use Rattle.book.specs.Codes.{side_number, class_number, state_number, stage_number};
-ghost use Rattle.text.specs.Text.{bytes};
+ghost use Rattle.book.specs.Rows.{blank_account, blank_receipt, blank_match};
 ghost use Rattle.text.specs.Print.{Put};
-ghost use Rattle.text.specs.Ledger.{account_line, receipt_line, match_line, account_row, receipt_row, match_row, section, ledger};
+ghost use Rattle.text.specs.Printer.{HasRoom, Prints};
+ghost use Rattle.text.specs.Ledger.{account_line, receipt_line, match_line, section, ledger};
 
-use crate::print::{put_byte, put_heading, put_number, put_rest, put_signed};
+use crate::print::Printer;
+use crate::rows::{Row, in_use, print_rows};
 use book::{Account, Book, Match, Receipt, ReceiptState, Side, Stage};
 
 fn side_number(side: Side) -> u64
     ensures { result ≡ side_number side }
 {
-    match side {
-        Side::Flat => 0,
-        Side::Long => 1,
-        Side::Short => 2,
-    }
+    side as u64
+}
+
+pub fn stage_number(stage: Stage) -> u64
+    ensures { result ≡ stage_number stage }
+{
+    stage as u64
 }
 
 fn class_number(bonded: bool) -> u64
     ensures { result ≡ class_number bonded }
 {
-    if bonded { 1 } else { 0 }
+    u64::from(bonded)
 }
 
+// No discriminant, since a frozen receipt carries its match.
 fn state_number(state: ReceiptState) -> u64
     ensures { result ≡ state_number state }
 {
@@ -34,107 +39,106 @@ fn state_number(state: ReceiptState) -> u64
     }
 }
 
-pub fn stage_number(stage: Stage) -> u64
-    ensures { result ≡ stage_number stage }
-{
-    match stage {
-        Stage::Paired => 0,
-        Stage::Prepaid => 1,
-        Stage::Held => 2,
-        Stage::Closed => 3,
-        Stage::Ended => 4,
-        Stage::Funded => 5,
-        Stage::Awaiting => 6,
+// The form of the ledger.
+pub struct LedgerForm;
+
+impl Row<LedgerForm> for Account {
+    ghost blank = { blank_account };
+
+    ghost line = { account_line };
+
+    ghost most = { 85 };
+
+    ghost fits = { λ _ _. ⊤ };
+
+    fn print(&self, printer: &mut Printer, number: usize) {
+        printer.number(number as u64);
+        printer.byte(b' ');
+        printer.signed(self.cash);
+        printer.rest(&[side_number(self.side), self.units as u64]);
     }
 }
 
-fn put_account(out: &mut [u8], at: usize, number: usize, a: Account) -> usize
-    requires { at + 85 ≤ length out.old }
-    ensures { Put out.old out.new at result (account_line number a) × (result ≤ at + 85) }
-{
-    let side = a.side;
-    let side = side_number(side);
-    let units = a.units as u64;
-    let x = put_number(out, at, number as u64);
-    let y = put_byte(out, x, 32);
-    let z = put_signed(out, y, a.cash);
-    put_rest(out, z, &[side, units])
-}
+impl Row<LedgerForm> for Receipt {
+    ghost blank = { blank_receipt };
 
-fn put_receipt(out: &mut [u8], at: usize, number: usize, r: Receipt) -> usize
-    requires { at + 84 ≤ length out.old }
-    ensures { Put out.old out.new at result (receipt_line number r) × (result ≤ at + 84) }
-{
-    let owner = r.owner as u64;
-    let class = class_number(r.bonded);
-    let state = r.state;
-    let state = state_number(state);
-    let w = put_number(out, at, number as u64);
-    put_rest(out, w, &[owner, class, state])
-}
+    ghost line = { receipt_line };
 
-fn put_match(out: &mut [u8], at: usize, number: usize, m: Match) -> usize
-    requires { at + 147 ≤ length out.old }
-    ensures { Put out.old out.new at result (match_line number m) × (result ≤ at + 147) }
-{
-    let buyer = m.buyer as u64;
-    let seller = m.seller as u64;
-    let units = m.units as u64;
-    let price = m.price as u64;
-    let stage = m.stage;
-    let stage = stage_number(stage);
-    let w = put_number(out, at, number as u64);
-    put_rest(out, w, &[buyer, seller, units, price, stage, m.held])
-}
+    ghost most = { 84 };
 
-#[tactic(auto, using(crate::proofs::Printing::put_none), unfolding(crate::specs::Ledger::each))]
-fn put_accounts(out: &mut [u8], at: usize, rows: [Account; Book::ACCOUNTS], count: usize) -> usize
-    requires { (at + 30 + 85 * count ≤ length out.old) × (count ≤ 32) }
-    ensures { Put out.old out.new at result (section (bytes "accounts") count (account_row rows)) × (result ≤ at + 30 + 85 * count) }
-{
-    let mut w = put_heading(out, at, b"accounts", count as u64);
-    for i in 0..count {
-        let row = rows[i];
-        w = put_account(out, w, i, row);
+    ghost fits = { λ _ _. ⊤ };
+
+    fn print(&self, printer: &mut Printer, number: usize) {
+        printer.number(number as u64);
+        printer.rest(&[
+            self.owner as u64,
+            class_number(self.bonded),
+            state_number(self.state),
+        ]);
     }
-    w
 }
 
-#[tactic(auto, using(crate::proofs::Printing::put_none), unfolding(crate::specs::Ledger::each))]
-fn put_receipts(out: &mut [u8], at: usize, rows: [Receipt; Book::RECEIPTS], count: usize) -> usize
-    requires { (at + 30 + 84 * count ≤ length out.old) × (count ≤ 256) }
-    ensures { Put out.old out.new at result (section (bytes "receipts") count (receipt_row rows)) × (result ≤ at + 30 + 84 * count) }
-{
-    let mut w = put_heading(out, at, b"receipts", count as u64);
-    for i in 0..count {
-        let row = rows[i];
-        w = put_receipt(out, w, i, row);
+impl Row<LedgerForm> for Match {
+    ghost blank = { blank_match };
+
+    ghost line = { match_line };
+
+    ghost most = { 147 };
+
+    ghost fits = { λ _ _. ⊤ };
+
+    fn print(&self, printer: &mut Printer, number: usize) {
+        printer.number(number as u64);
+        printer.rest(&[
+            self.buyer as u64,
+            self.seller as u64,
+            self.units as u64,
+            self.price as u64,
+            stage_number(self.stage),
+            self.held,
+        ]);
     }
-    w
 }
 
-#[tactic(auto, using(crate::proofs::Printing::put_none), unfolding(crate::specs::Ledger::each))]
-fn put_matches(out: &mut [u8], at: usize, rows: [Match; Book::MATCHES], count: usize) -> usize
-    requires { (at + 29 + 147 * count ≤ length out.old) × (count ≤ 256) }
-    ensures { Put out.old out.new at result (section (bytes "matches") count (match_row rows)) × (result ≤ at + 29 + 147 * count) }
+// A section of the ledger.
+fn print_section<T: Row<LedgerForm>>(printer: &mut Printer, word: &[u8], rows: &[T])
+    requires room { HasRoom printer.old (length word.now + 22 + T.most * length rows.now) }
+    requires fits { (k : ℕ) → k < length rows.now → T.fits k (get_or rows.now k T.blank) }
+    ensures printed { Prints printer.old printer.new (section word.now (length rows.now) (λ k. T.line k (get_or rows.now k T.blank))) }
+    ensures few { printer.new.at ≤ printer.old.at + length word.now + 22 + T.most * length rows.now }
 {
-    let mut w = put_heading(out, at, b"matches", count as u64);
-    for i in 0..count {
-        let row = rows[i];
-        w = put_match(out, w, i, row);
-    }
-    w
+    printer.heading(word, rows.len() as u64);
+    print_rows(printer, rows);
 }
 
-pub fn put_ledger(out: &mut [u8], at: usize, book: Book) -> usize
-    requires { (at + 61_971 ≤ length out.old) × (book.account_count ≤ 32) × (book.receipt_count ≤ 256) × (book.match_count ≤ 256) }
-    ensures { Put out.old out.new at result (ledger book) × (result ≤ at + 61_971) }
+fn print_ledger(printer: &mut Printer, book: &Book)
+    requires room { HasRoom printer.old 61_971 }
+    requires accounts { book.now.account_count ≤ 32 }
+    requires receipts { book.now.receipt_count ≤ 256 }
+    requires matches { book.now.match_count ≤ 256 }
+    ensures printed { Prints printer.old printer.new (ledger book.now) }
+    ensures few { printer.new.at ≤ printer.old.at + 61_971 }
 {
-    let accounts = book.accounts;
-    let receipts = book.receipts;
-    let matches = book.matches;
-    let x = put_accounts(out, at, accounts, book.account_count);
-    let y = put_receipts(out, x, receipts, book.receipt_count);
-    let z = put_matches(out, y, matches, book.match_count);
-    put_heading(out, z, b"fund", book.fund)
+    print_section(
+        printer,
+        b"accounts",
+        in_use(&book.accounts, book.account_count),
+    );
+    print_section(
+        printer,
+        b"receipts",
+        in_use(&book.receipts, book.receipt_count),
+    );
+    print_section(printer, b"matches", in_use(&book.matches, book.match_count));
+    printer.heading(b"fund", book.fund);
+}
+
+// The ledger at a place of a lent buffer; the result is the place after it.
+pub fn put_ledger(out: &mut [u8], at: usize, book: &Book) -> usize
+    requires { (at + 61_971 ≤ length out.old) × (book.now.account_count ≤ 32) × (book.now.receipt_count ≤ 256) × (book.now.match_count ≤ 256) }
+    ensures { Put out.old out.new at result (ledger book.now) × (result ≤ at + 61_971) }
+{
+    let mut printer = Printer { out, at };
+    print_ledger(&mut printer, book);
+    printer.at
 }

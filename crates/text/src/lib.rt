@@ -3,6 +3,8 @@
 
 mod ledger;
 mod print;
+mod rows;
 
 pub use ledger::{put_ledger, stage_number};
-pub use print::{last_digit, put_answer, put_byte, put_bytes, put_digits, put_next};
+pub use print::{Printer, put_answer};
+pub use rows::{Row, in_use, print_rows};

@@ -1,112 +1,141 @@
-// Bytes, numbers and answers, written into a lent buffer at a place; each function gives the place after what it wrote.
-ghost use Rattle.std.specs.Prelude.{◌≡◌, ◌∷◌, [], ◌++◌, ◌+◌, ◌*◌, ◌≤◌, ◌<◌, ◌%◌, length};
+// A printer writes bytes, numbers and answers into a lent buffer.
+ghost use Rattle.std.specs.Prelude.{◌≡◌, ◌∷◌, [], ◌++◌, ◌+◌, ◌*◌, ◌≤◌, ◌%◌, length};
+ghost use Rattle.book.specs.Answers.{answer_of};
 ghost use Rattle.text.specs.Print.{Put, digits, signed, rest_of_line, answer_line};
 ghost use Rattle.text.specs.Ledger.{heading};
 
-use book::Answer;
+use book::Refusal;
 
-pub fn put_byte(out: &mut [u8], at: usize, b: u8) -> usize
-    requires { at < length out.old }
-    ensures { Put out.old out.new at result (b ∷ []) }
-{
-    out[at] = b;
-    at + 1
+// A lent buffer, and the place up to which it is written.
+#[derive(Drop)]
+pub struct Printer<'a> {
+    pub out: &'a mut [u8],
+    pub at: usize,
 }
 
-#[tactic(auto, using(crate::proofs::Printing::put_none, crate::proofs::Printing::put_one))]
-pub fn put_bytes(out: &mut [u8], at: usize, src: &[u8]) -> usize
-    requires { at + length src.now ≤ length out.old }
-    ensures { Put out.old out.new at result src.now }
-{
-    let mut w = at;
-    let mut i = 0;
-    while i < src.len() {
-        w = put_byte(out, w, src[i]);
-        i += 1;
-    }
-    w
-}
-
-pub fn last_digit(n: u64) -> u8
+// The last digit of a number.
+fn last_digit(n: u64) -> u8
     ensures { result ≡ 48 + n % 10 }
 {
-    48 + (n % 10) as u8
+    b'0' + (n % 10) as u8
 }
 
-// A number's digits, with room for just these.
-#[tactic(auto, using(crate::proofs::Printing::digits_one, crate::proofs::Printing::digits_longer, crate::proofs::Printing::put_small))]
-pub fn put_digits(out: &mut [u8], at: usize, n: u64) -> usize
+// A number's digits. The buffer and the place are apart here alone: kept in a printer, the place would be stored and loaded again at each digit, and an answer take half as long again.
+#[tactic(auto, using(crate::proofs::Printing::digits_one, crate::proofs::Printing::digits_longer))]
+fn put_digits(out: &mut [u8], at: usize, n: u64) -> usize
     requires { at + length (digits n) ≤ length out.old }
     ensures { Put out.old out.new at result (digits n) }
 {
     if n < 10 {
-        return put_byte(out, at, last_digit(n));
+        out[at] = last_digit(n);
+        return at + 1;
     }
-    let next = put_digits(out, at, n / 10);
-    put_byte(out, next, last_digit(n))
+    let place = put_digits(out, at, n / 10);
+    out[place] = last_digit(n);
+    place + 1
 }
 
-// The same with room for any number: what is left to show at a call is arithmetic.
-#[tactic(auto, using(crate::proofs::Printing::digits_64))]
-pub fn put_number(out: &mut [u8], at: usize, n: u64) -> usize
-    requires { at + 20 ≤ length out.old }
-    ensures { Put out.old out.new at result (digits n) × (result ≤ at + 20) }
-{
-    put_digits(out, at, n)
-}
+impl<'a> Printer<'a> {
+    ghost use Rattle.text.specs.Printer.{HasRoom, Prints};
 
-pub fn put_signed(out: &mut [u8], at: usize, z: i64) -> usize
-    requires { at + 21 ≤ length out.old }
-    ensures { Put out.old out.new at result (signed z) × (result ≤ at + 21) }
-{
-    if z < 0 {
-        let w = put_byte(out, at, 45);
-        put_number(out, w, (-(z + 1)) as u64 + 1)
-    } else {
-        put_number(out, at, z as u64)
+    pub fn byte(&mut self, b: u8)
+        requires { HasRoom self.old 1 }
+        ensures { Prints self.old self.new (b ∷ []) }
+    {
+        self.out[self.at] = b;
+        self.at += 1;
+    }
+
+    pub fn bytes(&mut self, src: &[u8])
+        requires { HasRoom self.old (length src.now) }
+        ensures { Prints self.old self.new src.now }
+    {
+        let end = self.at + src.len();
+        self.out[self.at..end].copy_from_slice(src);
+        self.at = end;
+    }
+
+    pub fn last_digit(&mut self, n: u64)
+        requires { HasRoom self.old 1 }
+        ensures { Prints self.old self.new ((48 + n % 10) ∷ []) }
+    {
+        self.byte(last_digit(n));
+    }
+
+    // A number's digits, with room for just these.
+    pub fn digits(&mut self, n: u64)
+        requires { HasRoom self.old (length (digits n)) }
+        ensures { Prints self.old self.new (digits n) }
+    {
+        self.at = put_digits(self.out, self.at, n);
+    }
+
+    // The same with room for any number: what is left to show at a call is arithmetic.
+    #[tactic(auto, using(crate::proofs::Printing::digits_64))]
+    pub fn number(&mut self, n: u64)
+        requires { HasRoom self.old 20 }
+        ensures printed { Prints self.old self.new (digits n) }
+        ensures few { self.new.at ≤ self.old.at + 20 }
+    {
+        self.digits(n);
+    }
+
+    pub fn signed(&mut self, z: i64)
+        requires { HasRoom self.old 21 }
+        ensures printed { Prints self.old self.new (signed z) }
+        ensures few { self.new.at ≤ self.old.at + 21 }
+    {
+        if z < 0 {
+            self.byte(b'-');
+            self.number(z.unsigned_abs());
+            return;
+        }
+        self.number(z as u64);
+    }
+
+    // A space and a number.
+    pub fn next(&mut self, n: u64)
+        requires { HasRoom self.old 21 }
+        ensures printed { Prints self.old self.new ((32 ∷ []) ++ digits n) }
+        ensures few { self.new.at ≤ self.old.at + 21 }
+    {
+        self.byte(b' ');
+        self.number(n);
+    }
+
+    // The rest of a line: numbers, a space before each, and the newline.
+    #[tactic(auto, using(crate::proofs::Printing::prints_none, crate::proofs::Printing::prints_then), unfolding(crate::specs::Print::spaced))]
+    pub fn rest(&mut self, ns: &[u64])
+        requires { HasRoom self.old (21 * length ns.now + 1) }
+        ensures printed { Prints self.old self.new (rest_of_line ns.now) }
+        ensures few { self.new.at ≤ self.old.at + 21 * length ns.now + 1 }
+    {
+        for n in ns {
+            self.next(*n);
+        }
+        self.byte(b'\n');
+    }
+
+    // A word and a number on a line.
+    pub fn heading(&mut self, word: &[u8], n: u64)
+        requires { HasRoom self.old (length word.now + 22) }
+        ensures printed { Prints self.old self.new (heading word.now n) }
+        ensures few { self.new.at ≤ self.old.at + length word.now + 22 }
+    {
+        self.bytes(word);
+        self.rest(&[n]);
     }
 }
 
-// A space and a number.
-pub fn put_next(out: &mut [u8], at: usize, n: u64) -> usize
-    requires { at + 21 ≤ length out.old }
-    ensures { Put out.old out.new at result ((32 ∷ []) ++ digits n) × (result ≤ at + 21) }
-{
-    let w = put_byte(out, at, 32);
-    put_number(out, w, n)
-}
-
-// The rest of a line: numbers, a space before each, and the newline.
-#[tactic(auto, using(crate::proofs::Printing::put_none, crate::proofs::Printing::put_then), unfolding(crate::specs::Print::spaced))]
-pub fn put_rest(out: &mut [u8], at: usize, ns: &[u64]) -> usize
-    requires { at + 21 * length ns.now + 1 ≤ length out.old }
-    ensures { Put out.old out.new at result (rest_of_line ns.now) × (result ≤ at + 21 * length ns.now + 1) }
-{
-    let mut w = at;
-    let mut i = 0;
-    while i < ns.len() {
-        w = put_next(out, w, ns[i]);
-        i += 1;
-    }
-    put_byte(out, w, 10)
-}
-
-// A word and a number on a line.
-pub fn put_heading(out: &mut [u8], at: usize, word: &[u8], n: u64) -> usize
-    requires { at + length word.now + 22 ≤ length out.old }
-    ensures { Put out.old out.new at result (heading word.now n) × (result ≤ at + length word.now + 22) }
-{
-    let w = put_bytes(out, at, word);
-    put_rest(out, w, &[n])
-}
-
-// `ok n` or `no n`.
-pub fn put_answer(out: &mut [u8], at: usize, answer: Answer) -> usize
+// `ok n` or `no n`, at a place of a lent buffer; the result is the place after it.
+pub fn put_answer(out: &mut [u8], at: usize, answer: Result<u64, Refusal>) -> usize
     requires { at + 24 ≤ length out.old }
-    ensures { Put out.old out.new at result (answer_line answer) × (result ≤ at + 24) }
+    ensures { Put out.old out.new at result (answer_line (answer_of answer)) × (result ≤ at + 24) }
 {
+    let mut printer = Printer { out, at };
     match answer {
-        Answer::Accepted(n) => put_heading(out, at, b"ok", n),
-        Answer::Refused(n) => put_heading(out, at, b"no", n),
+        Ok(n) => printer.heading(b"ok", n),
+        Err(refusal) => printer.heading(b"no", refusal.number()),
     }
+    printer.at
 }

@@ -1,6 +1,8 @@
 use Rattle.std.proofs.Common.{rules}
-use Rattle.heat_text.proofs.Lines.{line_more}
+use Rattle.heat_text.proofs.Lines.{table_printed, table_next}
 use Rattle.heat_text.proofs.put_table.Goals as goal
 
-pub loop-i-preserved : goal.loop-i-preserved
-loop-i-preserved c = search (rules, line_more)
+pub returns : goal.returns
+returns c =
+    let p = table_printed c.numerators.ensures c.print_rows.ensures.printed in
+    (search rules, table_next p)

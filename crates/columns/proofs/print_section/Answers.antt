@@ -1,0 +1,5 @@
+use Rattle.text.proofs.Printing.{prints_then}
+use Rattle.columns.proofs.print_section.Goals as goal
+
+pub returns-clause-printed : goal.returns-clause-printed
+returns-clause-printed g c = prints_then c.print_count.ensures.printed c.print_rows.ensures.printed

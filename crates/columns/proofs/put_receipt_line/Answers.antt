@@ -1,6 +1,0 @@
-use Rattle.std.proofs.Common.{rules}
-use Rattle.text.proofs.Printing.{put_then}
-use Rattle.columns.proofs.put_receipt_line.Goals as goal
-
-pub returns : goal.returns
-returns c = (search (rules, put_then), search rules)

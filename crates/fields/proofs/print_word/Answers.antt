@@ -1,0 +1,5 @@
+use Rattle.fields.proofs.Aligning.{right_prints}
+use Rattle.fields.proofs.print_word.Goals as goal
+
+pub returns-clause-printed : goal.returns-clause-printed
+returns-clause-printed c = right_prints _ _ c.print_spaces.ensures.printed c.bytes.ensures

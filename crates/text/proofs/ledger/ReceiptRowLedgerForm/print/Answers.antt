@@ -1,0 +1,5 @@
+use Rattle.text.proofs.Printing.{prints_then}
+use Rattle.text.proofs.ledger.ReceiptRowLedgerForm.print.Goals as goal
+
+pub returns-clause-printed : goal.returns-clause-printed
+returns-clause-printed c = rw (← c.class_number.ensures, ← c.state_number.ensures) (prints_then c.number.ensures.printed c.rest.ensures.printed)
