@@ -1,9 +1,1 @@
-pub mod Follows
-pub mod Queues
-pub mod Walks
-pub mod Lists
-pub mod Inserting
-pub mod Joins
-pub mod Bonded
-pub mod Second
-pub mod Passes
+pub mod Asked

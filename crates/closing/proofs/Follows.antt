@@ -1,4 +1,4 @@
--- What the code of Close asks of a book, and that a book after pairings still has it, with no fewer matches. Assumes nothing.
+-- A book after pairings has what the code of Close asks of a book, and no fewer matches. Assumes nothing.
 use Rattle.std.specs.Prelude.{◌≡◌, refl, Bool, List, [], ◌∷◌, ℕ, ◌+◌, ◌≤◌}
 use Rattle.std.proofs.Common.{◌∙◌, arith}
 use Rattle.book.specs.declared.tables.Book.{Book}
@@ -7,13 +7,7 @@ use Rattle.book.specs.Closing.{Pair, pair_all}
 use Rattle.book.specs.Lists.{Reached}
 use Rattle.reached.specs.Needs.{calls}
 use Rattle.book.proofs.laws.Counting.{by_pick}
-
--- what a pairing asks of a book, but for room
-pub record Ready (b : Book) : Type 0 where
-  pub price_few : b.price ≤ 1_000_000
-  pub day_few : b.day ≤ 1_000
-  pub accounts_few : b.account_count ≤ 32
-  pub receipts_few : b.receipt_count ≤ 256
+use Rattle.closing.specs.Asked.{Ready}
 
 pub ready : (b : Book) → Reached b → Ready b
 ready b r = search calls
