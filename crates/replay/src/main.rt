@@ -1,92 +1,64 @@
 // Replays stored sessions and compares every byte: the arguments are the names of an input and of its output, in turn; an output `NAME.page` is the page of the book after the session.
 #![tactic(auto)]
 
-ghost use Rattle.std.specs.Prelude.{◌≡◌, ◌+◌, ◌^◌, ◌<◌, ◌≤◌, length, take};
-ghost use Rattle.std.specs.Io.{ReadsAtMost};
-
 use std::fs::File;
+use std::io::Read;
 use std::{env, io};
 
-fn input_buffer() -> [u8; 65537]
-    ensures { 65537 ≡ length result }
-{
-    [0; 65537]
+// One byte more than an input may have, which shows that it is longer.
+const INPUT: u64 = 65_537;
+
+// Room for the output of every session.
+const OUTPUT: usize = 848_427;
+
+// A file's first bytes, as many as `most`.
+fn read_file(rt: &HostRuntime, name: &str, most: u64) -> io::Result<Vec<u8>> {
+    let mut bytes = Vec::new(rt.alloc());
+    File::open(rt, name)?.take(most).read_to_end(&mut bytes)?;
+    Ok(bytes)
 }
 
-fn output_buffer() -> [u8; 848427]
-    ensures { 848427 ≡ length result }
-{
-    [0; 848427]
-}
-
-// Reads a file's first bytes into a buffer.
-fn read_file(rt: &HostRuntime, name: &str, buf: &mut [u8]) -> io::Result<usize>
-    ensures { ReadsAtMost result buf.new }
-{
-    let mut file = File::open(rt, name)?;
-    filling::read_full(&mut file, buf)
-}
-
-// Reads a file's first bytes into a buffer, and answers how many there are; a file that cannot be read has none.
-fn load(rt: &HostRuntime, name: &str, buf: &mut [u8]) -> usize
-    ensures within { result ≤ length buf.new }
-    ensures counted { result ≡ length (take result buf.new) }
-{
-    match read_file(rt, name, buf) {
-        Ok(n) => n,
+// A file's first bytes; a file that cannot be read has none.
+fn load(rt: &HostRuntime, name: &str, most: u64) -> Vec<u8> {
+    match read_file(rt, name, most) {
+        Ok(bytes) => bytes,
         Err(e) => {
             let _ = eprintln!(rt; "{name}: {e}");
-            0
+            Vec::new(rt.alloc())
         }
-    }
-}
-
-// Whether a name is that of a page.
-fn is_page(name: &str) -> bool {
-    name.ends_with(".page")
-}
-
-// What is printed of a session, or its page: how many bytes it has.
-fn printed(input: &[u8], paged: bool, out: &mut [u8]) -> usize
-    requires { 848427 ≤ length out.old }
-    ensures within { result ≤ length out.new }
-    ensures counted { result ≡ length (take result out.new) }
-{
-    if paged {
-        session::page(input, out)
-    } else {
-        session::session(input, out)
     }
 }
 
 // Whether the session of an input gives the output that is stored for it.
 fn agrees(rt: &HostRuntime, input_name: &str, output_name: &str) -> bool {
-    let mut input = input_buffer();
-    let n = load(rt, input_name, &mut input);
-    let mut stored = output_buffer();
-    let k = load(rt, output_name, &mut stored);
-    let mut out = output_buffer();
-    let r = printed(&input[..n], is_page(output_name), &mut out);
-    out[..r] == stored[..k]
+    let input = load(rt, input_name, INPUT);
+    let stored = load(rt, output_name, OUTPUT as u64);
+    let mut out = filling::buffer::<OUTPUT>();
+    let r = if output_name.ends_with(".page") {
+        session::page(&input, &mut out)
+    } else {
+        session::session(&input, &mut out)
+    };
+    out[..r] == stored[..]
 }
 
-// The session that two names give: 1 where it agrees, else 0, with its name on a line.
-fn replayed(rt: &HostRuntime, input_name: &str, output_name: &str) -> u64
-    ensures { result ≤ 1 }
-{
-    if agrees(rt, input_name, output_name) {
-        return 1;
+// One of the names of a pair; "" where it is missing.
+fn name_at(pair: &[String], place: usize) -> &str {
+    pair.get(place).map_or("", |name| name.as_str())
+}
+
+// Whether the session that two names give agrees; its name on a line where it does not.
+fn replayed(rt: &HostRuntime, pair: &[String]) -> bool {
+    let input_name = name_at(pair, 0);
+    let same = agrees(rt, input_name, name_at(pair, 1));
+    if !same {
+        let _ = println!(rt; "{input_name} differs");
     }
-    let _ = println!(rt; "{input_name} differs");
-    0
+    same
 }
 
 fn main(rt: HostRuntime) -> io::Result<()> {
-    let names: Vec<String> = env::args(&rt)?.collect(rt.alloc())?;
-    let mut agreed: u64 = 0;
-    for j in 0..names.len() / 2 {
-        let output_name = names.get(2 * j + 2).map_or("", |name| name.as_str());
-        agreed += replayed(&rt, names[2 * j + 1].as_str(), output_name);
-    }
+    let names: Vec<String> = env::args(&rt)?.skip(1).collect(rt.alloc())?;
+    let agreed = names.chunks(2).filter(|pair| replayed(&rt, pair)).count();
     println!(rt; "{agreed} outputs agree")
 }
