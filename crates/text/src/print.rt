@@ -1,4 +1,4 @@
-// A printer writes bytes, numbers and answers into a lent buffer.
+// A printer writes bytes, numbers and answers into a lent buffer. No `write!`: std's formatting promises its bytes only on `Ok`, and never that it ends in `Ok`; these are written wherever there is room.
 ghost use Rattle.std.specs.Prelude.{◌≡◌, ◌∷◌, [], ◌++◌, ◌+◌, ◌*◌, ◌≤◌, ◌%◌, length};
 ghost use Rattle.book.specs.Answers.{answer_of};
 ghost use Rattle.text.specs.Print.{Put, digits, signed, rest_of_line, answer_line};
@@ -127,7 +127,7 @@ impl<'a> Printer<'a> {
     }
 }
 
-// `ok n` or `no n`, at a place of a lent buffer; the result is the place after it.
+// `ok n` or `no n`, at a place of a lent buffer, for callers that hold the two apart; the result is the place after it.
 pub fn put_answer(out: &mut [u8], at: usize, answer: Result<u64, Refusal>) -> usize
     requires { at + 24 ≤ length out.old }
     ensures { Put out.old out.new at result (answer_line (answer_of answer)) × (result ≤ at + 24) }
