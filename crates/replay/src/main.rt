@@ -35,7 +35,7 @@ fn agrees(rt: &HostRuntime, input_name: &str, output_name: &str) -> bool {
     let stored = load(rt, output_name, OUTPUT as u64);
     let mut out = filling::buffer::<OUTPUT>();
     let r = if output_name.ends_with(".page") {
-        session::page(&input, &mut out)
+        session::page(&input, &mut out).unwrap_or(0)
     } else {
         session::session(&input, &mut out)
     };
