@@ -1,5 +1,5 @@
 -- What is paid for a match is small, and there is room for it: rules of `search money`. Assumes nothing.
-use Rattle.std.specs.Prelude.{◌≡◌, refl, Bool, true, false, ℕ, suc, ◌+◌, ◌*◌, ◌≤◌, ◌<◌, pos, neg_ℤ, nat_abs, Option, Some}
+use Rattle.std.specs.Prelude.{◌≡◌, refl, ℕ, suc, ◌+◌, ◌*◌, ◌≤◌, ◌<◌, pos, neg_ℤ, nat_abs, Option, Some, None}
 use Rattle.std.proofs.Common.{arith, mul-le-mul, add_assoc, Fits}
 use Rattle.std.specs.Int.{w64}
 use Rattle.coal.specs.Coal.{percent_down}
@@ -73,13 +73,13 @@ module _ (n : ℕ) (b : Book) where
     unfolding charge
     room_charged e h r = rw e (room_put k _ (omega (arith, natAbs_sum (account_at b k).cash (neg_ℤ (pos x)), natAbs_neg (pos x), r.cash k)) r)
 
-pub room_fined : (n : ℕ) (t : Bool) (b f : Book) (k i x : ℕ) → f ≡ fined t b k i x → x ≤ most_paid → Room (suc (suc n)) b → Room n f
+pub room_fined : (n : ℕ) (p : Option ℕ) (b f : Book) (k x : ℕ) → f ≡ fined p b k x → x ≤ most_paid → Room (suc (suc n)) b → Room n f
 unfolding fined
-room_fined n true b f k i x e h r = rw e (record { cash = λ j. omega (arith, (room_charged (suc n) b _ k x refl h r).cash j); fund = omega (arith, r.fund) })
-room_fined n false b f k i x e h r = room_paid n (charge b k x) f i x e h (room_charged (suc n) b _ k x refl h r)
+room_fined n None b f k x e h r = rw e (record { cash = λ j. omega (arith, (room_charged (suc n) b _ k x refl h r).cash j); fund = omega (arith, r.fund) })
+room_fined n (Some i) b f k x e h r = room_paid n (charge b k x) f i x e h (room_charged (suc n) b _ k x refl h r)
 
 -- two at fault, one after the other
-pub both_fined : (b : Book) (k i x y : ℕ) → fined true (fined true b k i x) i k y ≡ with_fund (charge (charge b k x) i y) (b.fund + (x + y))
+pub both_fined : (b : Book) (k i x y : ℕ) → fined None (fined None b k x) i y ≡ with_fund (charge (charge b k x) i y) (b.fund + (x + y))
 unfolding fined charge
 both_fined b k i x y = rw (add_assoc b.fund x y)
 

@@ -1,6 +1,5 @@
 -- What the money of a match asks for: bounds of what is paid, room for it in every account's cash and in the fund, and what is known of a match that is settled. Assumes nothing.
-use Rattle.std.specs.Prelude.{◌≡◌, Bool, ℕ, ◌+◌, ◌*◌, ◌≤◌, ◌<◌, nat_abs, Option, Some, None}
-use Rattle.coal.specs.Choice.{pick}
+use Rattle.std.specs.Prelude.{◌≡◌, ℕ, ◌+◌, ◌*◌, ◌≤◌, ◌<◌, nat_abs, Option, Some, None}
 use Rattle.book.specs.declared.tables.Book.{Book}
 use Rattle.book.specs.Tables.{account_at, match_at, with_fund, pay, charge}
 use Rattle.book.specs.Settlement.{value}
@@ -28,9 +27,10 @@ pub record Room (n : ℕ) (b : Book) : Type 0 where
   pub cash : (k : ℕ) → nat_abs (account_at b k).cash + n * most_paid ≤ most_cash
   pub fund : b.fund + n * most_paid ≤ most_cash
 
--- "One at fault pays the other; two at fault each pay the fund": a payer k, the other party i
-unfoldable pub fined : Bool → Book → ℕ → ℕ → ℕ → Book
-fined both b k i x = pick both (with_fund (charge b k x) (b.fund + x)) (pay (charge b k x) i x)
+-- "One at fault pays the other; two at fault each pay the fund": account k pays x to another, or to the fund
+unfoldable pub fined : Option ℕ → Book → ℕ → ℕ → Book
+fined (Some i) b k x = pay (charge b k x) i x
+fined None b k x = with_fund (charge b k x) (b.fund + x)
 
 -- ---- a match and what it is worth
 

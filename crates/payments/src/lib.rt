@@ -1,7 +1,7 @@
 // What the calls that settle a match are made of: payments to and from an account, the money held for a match and its stage, its receipts, penalties.
 #![tactic(auto)]
 
-ghost use Rattle.std.specs.Prelude.{◌≡◌, not, ◌≤◌, ◌<◌, ◌*◌};
+ghost use Rattle.std.specs.Prelude.{◌≡◌, not, ◌≤◌, ◌<◌, ◌*◌, IfSome};
 ghost use Rattle.coal.specs.Choice.{pick};
 ghost use Rattle.book.specs.Tables.{pay, charge};
 ghost use Rattle.book.specs.Settlement.{punish, free_again, pass_receipts, set_stage, handed};
@@ -84,7 +84,7 @@ fn pass_receipts(book: &mut Book, number: u64, taker: u8)
 }
 
 // "passes the receipts and pays the seller's 80%": "the rest is held"; the receipts pass to one who takes them, "free; stage held."
-#[tactic(auto, using(crate::proofs::Money::money), unfolding(book::specs::Settlement::handed, book::specs::Settlement::pass_receipts, book::specs::Tables::pay))]
+#[tactic(auto, using(crate::proofs::Money::money), unfolding(book::specs::Settlement::handed, book::specs::Tables::pay))]
 pub fn handed(book: &mut Book, m: &ValuedMatch, taker: u8)
     requires { Handing book.old m.now taker }
     ensures { book.new ≡ handed book.old m.now.number m.now.row m.now.value taker }
@@ -97,20 +97,19 @@ pub fn handed(book: &mut Book, m: &ValuedMatch, taker: u8)
 
 // ---- penalties
 
-// "One at fault pays the other; two at fault each pay the fund.": what one of them pays.
+// "One at fault pays the other; two at fault each pay the fund.": what one of them pays, to the other or, without a payee, to the fund.
 #[tactic(auto, using(crate::proofs::Money::room_charged), unfolding(crate::specs::Money::fined, book::specs::Tables::charge))]
-fn fined(book: &mut Book, payer: u8, other: u8, amount: u64, both: bool)
+fn fined(book: &mut Book, payer: u8, payee: Option<u8>, amount: u64)
     requires payer_bound { payer < 32 }
-    requires other_bound { other < 32 }
+    requires payee_bound { IfSome payee (λ k. k < 32) }
     requires amount_le_most_paid { amount ≤ most_paid }
     requires room { Room 2 book.old }
-    ensures { book.new ≡ fined both book.old payer other amount }
+    ensures { book.new ≡ fined payee book.old payer amount }
 {
     charge(book, payer, amount);
-    if both {
-        book.fund += amount;
-    } else {
-        pay(book, other, amount);
+    match payee {
+        Some(other) => pay(book, other, amount),
+        None => book.fund += amount,
     }
 }
 
@@ -127,16 +126,16 @@ pub fn punish(book: &mut Book, m: &ValuedMatch, x: Option<u64>, y: Option<u64>)
     let seller = m.row.seller;
     match (x, y) {
         (None, None) => {}
-        (Some(p), None) => fined(book, buyer, seller, percent_down(p, m.value), false),
-        (None, Some(q)) => fined(book, seller, buyer, percent_down(q, m.value), false),
+        (Some(p), None) => fined(book, buyer, Some(seller), percent_down(p, m.value)),
+        (None, Some(q)) => fined(book, seller, Some(buyer), percent_down(q, m.value)),
         (Some(p), Some(q)) => {
-            fined(book, buyer, seller, percent_down(p, m.value), true);
-            fined(book, seller, buyer, percent_down(q, m.value), true);
+            fined(book, buyer, None, percent_down(p, m.value));
+            fined(book, seller, None, percent_down(q, m.value));
         }
     }
 }
 
-// "unfit (10%), else .. (R%)": the fault of a party that lacks something or not.
+// "unfit (10%), else .. (R%)": the fault of a party, by whether it is fit and whether it lacks what is asked of it, each party something else.
 pub fn fault(fit: bool, lacking: bool, rate: u64) -> Option<u64>
     requires { rate ≤ 100 }
     ensures value { result ≡ pick (not fit) (Some 10) (pick lacking (Some rate) None) }
