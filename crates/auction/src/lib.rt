@@ -49,8 +49,9 @@ pub fn auction(book: &mut Book, number: u64, winner: u64, proceeds: u64) -> Resu
     if 1_000_000_000_000_000 < proceeds {
         return Err(Refusal::OutsideSet);
     }
-    let place = book.match_place(number)?;
-    if book.matches[place].stage != Stage::Awaiting {
+    book.match_place(number)?;
+    let m = ValuedMatch::of(book, number);
+    if m.row.stage != Stage::Awaiting {
         return Err(Refusal::WrongStage);
     }
     if 0 < proceeds && book.accounts[taker].overseas {
@@ -59,7 +60,6 @@ pub fn auction(book: &mut Book, number: u64, winner: u64, proceeds: u64) -> Resu
     if 0 < proceeds && book.accounts[taker].has_below(proceeds) {
         return Err(Refusal::AboveWinnersCash);
     }
-    let m = ValuedMatch::of(book, number);
     if proceeds == 0 {
         unsold(book, &m);
     } else {

@@ -71,8 +71,9 @@ pub fn measure(book: &mut Book, number: u64, sample: &Sample) -> Result<u64, Ref
     if !book.board {
         return Err(Refusal::OtherKind);
     }
-    let place = book.match_place(number)?;
-    if book.matches[place].stage != Stage::Prepaid {
+    book.match_place(number)?;
+    let m = ValuedMatch::of(book, number);
+    if m.row.stage != Stage::Prepaid {
         return Err(Refusal::WrongStage);
     }
     if 40_000_000_000 < sample.weight
@@ -84,7 +85,6 @@ pub fn measure(book: &mut Book, number: u64, sample: &Sample) -> Result<u64, Ref
     {
         return Err(Refusal::Unmeasurable);
     }
-    let m = ValuedMatch::of(book, number);
     let loaded = cargo(&m.row, book.tonnes, sample);
     let amount = amount_due(&m.row, loaded.settled, &sample.quality);
     measured(book, &m, amount);
@@ -132,7 +132,7 @@ fn terminated(book: &mut Book, m: &ValuedMatch, party: Party)
 }
 
 // "16 Terminate match, party (0 buyer, 1 seller, 2 both)." "Terminate (prepaid)"
-#[tactic(auto, using(reached::specs::Needs::calls), unfolding(book::specs::Settlement::terminate))]
+#[tactic(auto, unfolding(book::specs::Settlement::terminate))]
 pub fn terminate(book: &mut Book, number: u64, party: u64) -> Result<u64, Refusal>
     requires { Reached book.old }
     ensures { outcome result book.new ≡ terminate book.old number party }
@@ -141,11 +141,11 @@ pub fn terminate(book: &mut Book, number: u64, party: u64) -> Result<u64, Refusa
         return Err(Refusal::OtherKind);
     }
     let party = Party::try_from(party)?;
-    let place = book.match_place(number)?;
-    if book.matches[place].stage != Stage::Prepaid {
+    book.match_place(number)?;
+    let m = ValuedMatch::of(book, number);
+    if m.row.stage != Stage::Prepaid {
         return Err(Refusal::WrongStage);
     }
-    let m = ValuedMatch::of(book, number);
     terminated(book, &m, party);
     Ok(0)
 }
