@@ -8,6 +8,7 @@ const TABLE: usize = 18_711;
 
 fn main(rt: HostRuntime) -> io::Result<()> {
     let mut out = filling::buffer::<TABLE>();
+    // What the C interface serves writes into a lent buffer, and answers how many bytes.
     let r = heat_text::put_table(&mut out, 0);
     rt.write_all(&out[..r])
 }

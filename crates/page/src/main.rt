@@ -13,6 +13,7 @@ fn main(rt: HostRuntime) -> io::Result<()> {
     let mut input = filling::buffer::<INPUT>();
     let n = filling::read_full(&mut rt.stdin(), &mut input)?;
     let mut out = filling::buffer::<PAGE>();
+    // What the C interface serves writes into a lent buffer, and answers how many bytes.
     let r = session::page(&input[..n], &mut out).unwrap_or(0);
     rt.write_all(&out[..r])
 }

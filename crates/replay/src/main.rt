@@ -34,6 +34,7 @@ fn agrees(rt: &HostRuntime, input_name: &str, output_name: &str) -> bool {
     let input = load(rt, input_name, INPUT);
     let stored = load(rt, output_name, OUTPUT as u64);
     let mut out = filling::buffer::<OUTPUT>();
+    // What the C interface serves writes into a lent buffer, and answers how many bytes.
     let r = if output_name.ends_with(".page") {
         session::page(&input, &mut out).unwrap_or(0)
     } else {
