@@ -4,7 +4,7 @@
 ghost use Rattle.std.specs.Prelude.{◌≡◌, ◌≤◌, length};
 ghost use Rattle.book.specs.Outcomes.{Answer};
 ghost use Rattle.book.specs.Opening.{opened};
-ghost use Rattle.book.specs.Answers.{refusal_number};
+ghost use Rattle.book.specs.Codes.{refusal_number};
 ghost use Rattle.reader.specs.Lines.{lines};
 ghost use Rattle.text.specs.Print.{answer_line};
 ghost use Rattle.text.specs.Page.{lent};
