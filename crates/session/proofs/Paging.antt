@@ -1,10 +1,11 @@
 -- The page of the book after a session, in a lent buffer, and the room that is enough for it. Assumes nothing.
 use Rattle.std.specs.Prelude.{◌≡◌, Bool, true, false, List, [], ◌∷◌, ◌++◌, ℕ, ◌≤◌, ◌<◌, ltb, length, take, drop, Option, Some, None, IfSome, Result, Ok, Err}
-use Rattle.std.proofs.Common.{refl, ap, sym, ◌∙◌, arith, lt-ltb, le-ltb, length-append, length-take-le}
+use Rattle.std.proofs.Common.{refl, sym, ◌∙◌, arith, lt-ltb, le-ltb, length-append, length-take-le}
 use Rattle.coal.specs.Choice.{pick}
 use Rattle.book.specs.declared.tables.Book.{Book}
 use Rattle.book.specs.Outcomes.{Answer, Outcome}
-use Rattle.book.specs.Answers.{refuse, accept, is_accepted}
+use Rattle.book.specs.declared.refusals.Refusal.{Refusal}
+use Rattle.book.specs.Answers.{refuse, accept, is_accepted, answer_of}
 use Rattle.book.specs.Opening.{opening, no_book}
 use Rattle.book.proofs.laws.Counting.{by_pick}
 use Rattle.reader.specs.declared.lines.BadLine.{BadLine}
@@ -13,7 +14,7 @@ use Rattle.reader.specs.Lines.{lines, opening_line_of}
 use Rattle.text.specs.Print.{Put, answer_line, spaced, digits, last_digits}
 use Rattle.text.specs.Page.{page, lent, page_answer}
 use Rattle.text.proofs.Columns.{few, page_length}
-use Rattle.text.proofs.Lent.{lent_written, lent_short}
+use Rattle.text.proofs.Lent.{lent_short}
 use Rattle.session.specs.Session.{opened, first, line_one, outcome}
 use Rattle.session.specs.Paging.{page_output, page_room, lent_count, Paged}
 use Rattle.session.proofs.Starting.{demanded, outcome_led}
@@ -40,29 +41,23 @@ unfolding lent_count
 lent_none {before} t h = (rw (lt-ltb (length before) (length t) h) refl, lent_short t h)
 
 -- a text from a buffer of its own, where it was written first
-pub lent_again : {x y before after : List ℕ} {w r : ℕ} (t : List ℕ) → Put x y 0 w t → w ≤ length before → Put before after 0 r (take w y) → (Some r ≡ lent_count t before) × (after ≡ lent t before)
-lent_again {before = before} t p h q =
-    let g : length t ≤ length before = omega (arith, p.next) in
-    let put : Put _ _ 0 _ t = rw p.text at q in
-    (ap Some (omega (arith, put.next)) ∙ sym (lent_all t before g), lent_written t g put)
+pub lent_again : {x y part : List ℕ} {w : ℕ} (before t : List ℕ) → Put x y 0 w t → w ≤ length before → part ≡ take w y → (Some w ≡ lent_count t before) × (part ++ drop w before ≡ lent t before)
+unfolding lent
+lent_again {w = w} before t p h q =
+    let n : w ≡ length t = omega (arith, p.next) in
+    let g : length t ≤ length before = omega arith in
+    (rw n (sym (lent_all t before g)), rw (le-ltb (length before) (length t) g, q, p.text, n) refl)
 
 -- the page's answer tells the count
-module _ (b : Book) (before : List ℕ) {n : ℕ} where
-  pub accepted_count : Answer.Accepted n ≡ page_answer b before → Some n ≡ lent_count (page b) before
-  unfolding page_answer lent_count
-  accepted_count e = go (ltb (length before) (length (page b))) e
-    where
-      go : (c : Bool) → Answer.Accepted n ≡ pick c (Answer.Refused 27) (Answer.Accepted (length (page b))) → Some n ≡ pick c None (Some (length (page b)))
-      go true q = cc
-      go false q = cc
-
-  pub refused_count : Answer.Refused n ≡ page_answer b before → None ≡ lent_count (page b) before
-  unfolding page_answer lent_count
-  refused_count e = go (ltb (length before) (length (page b))) e
-    where
-      go : (c : Bool) → Answer.Refused n ≡ pick c (Answer.Refused 27) (Answer.Accepted (length (page b))) → None ≡ pick c None (Some (length (page b)))
-      go true q = refl
-      go false q = cc
+pub page_counted : (b : Book) (before : List ℕ) (r : Result ℕ Refusal) (o : Option ℕ) → answer_of r ≡ page_answer b before → ((n : ℕ) → r ≡ Ok n → o ≡ Some n) → ((e : Refusal) → r ≡ Err e → o ≡ None) → o ≡ lent_count (page b) before
+unfolding page_answer lent_count
+page_counted b before r o e f g = go r refl (ltb (length before) (length (page b))) e
+  where
+    go : (a : Result ℕ Refusal) → r ≡ a → (c : Bool) → answer_of a ≡ pick c (Answer.Refused 27) (Answer.Accepted (length (page b))) → o ≡ pick c None (Some (length (page b)))
+    go (Ok n) p true q = cc
+    go (Ok n) p false q = let h = f n p in cc
+    go (Err x) p true q = g x p
+    go (Err x) p false q = cc
 
 -- ---- the room that is enough
 

@@ -1,6 +1,7 @@
 -- A session from its first line: line one's outcome, and what the whole comes to. Assumes nothing.
-use Rattle.std.specs.Prelude.{◌≡◌, Bool, true, false, List, [], ◌∷◌, ◌++◌, ℕ, ◌≤◌, ◌<◌, ltb, length, take, drop, Result, Ok, Err}
-use Rattle.std.proofs.Common.{refl, ap, sym, ◌∙◌, arith, lt-ltb, le-ltb, ltb-false, length-take, append-nil}
+use Rattle.std.specs.Prelude.{◌≡◌, true, List, [], ◌∷◌, ℕ, ◌-◌, ◌≤◌, ◌<◌, ltb, length, take, drop, Result, Ok, Err}
+use Rattle.std.proofs.Common.{refl, ap, sym, ◌∙◌, arith, lt-ltb, le-ltb, ltb-false, length-take, length-drop, append-nil}
+use Rattle.std.proofs.Math.Seq.{take-length}
 use mathlib.Core.Bool.{true≢false}
 use Rattle.book.specs.declared.tables.Book.{Book}
 use Rattle.book.specs.declared.calls.Call.{Call}
@@ -40,6 +41,10 @@ unfolding lines line_length
 first_later [] = refl
 first_later (x ∷ s) = sym (ap later (cut_some (x ∷ s) (omega arith)).first)
 
+-- what is left of a text after its first line
+pub rest_whole : (s : List ℕ) {n : ℕ} → n ≡ line_length s → take (length s - n) (drop n s) ≡ drop (line_length s) s
+rest_whole s {n} e = let d = drop (line_length s) s in rw (e, ← length-drop (line_length s) s) (take-length d)
+
 -- ---- an accepted line one
 
 -- it is an accepted opening
@@ -66,10 +71,13 @@ begun s = by_pick (λ (o : Outcome). is_accepted o.answer ≡ true → Begun s o
     (λ _ a. absurd (true≢false (sym a)))
     (λ h a. record { few = ltb-false _ _ h; reached = by_opening (λ (o : Outcome). Reached o.book) reached-opening (lines s) a })
 
-pub after_reached : {b : Book} (cs : List Call) → Reached b → Reached (after b cs)
+after_reached : {b : Book} (cs : List Call) → Reached b → Reached (after b cs)
 unfolding after
 after_reached {b = b} [] h = h
 after_reached {b = b} (c ∷ cs) h = after_reached {b = (step b c).book} cs (called c h)
+
+pub run_reached : {b b' : Book} (cs : List Call) → Reached b → b' ≡ after b cs → Reached b'
+run_reached cs h e = rw e (after_reached cs h)
 
 -- ---- the whole, from line one on
 

@@ -1,0 +1,15 @@
+use Rattle.std.proofs.Common.{rules}
+use Rattle.session.proofs.Starting.{outcome_reached}
+use Rattle.session.proofs.Paging.{page_paged, line_paged, page_counted}
+use Rattle.session.proofs.page.Goals as goal
+
+pub put_page-requires : goal.put_page-requires
+put_page-requires c = outcome_reached c.args.input.now c.in-Ok.ensures
+
+pub returns-in-Ok : goal.returns-in-Ok
+returns-in-Ok c =
+    let put = c.put_page.ensures in
+    page_paged c.in-Ok.ensures (page_counted _ _ c.put_page.result _ put.0 (λ n e. search rules) (λ x e. search rules), put.1)
+
+pub returns-in-Err : goal.returns-in-Err
+returns-in-Err c = line_paged c.in-Err.ensures (c.lend_refusal.ensures.count, c.lend_refusal.ensures.text)
