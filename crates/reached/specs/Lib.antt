@@ -1,4 +1,2 @@
 pub mod Needs
-pub mod Chain
 pub mod Loops
-pub mod Places

@@ -40,9 +40,6 @@ module _ (rest : List ℕ) (h : 0 < length rest) where
   first : {line later : List ℕ} → line ≡ take (line_length rest) rest → later ≡ drop (line_length rest) rest → lines rest ≡ line ∷ lines later
   first p q = rw (p, q) cut.first
 
-  pub fewer : {later : List ℕ} → later ≡ drop (line_length rest) rest → length later < length rest
-  fewer q = let c = cut in rw q (omega (arith, c.some, c.within, length-drop (line_length rest) rest))
-
 module _ {text rest line later : List ℕ} {b next : Book} (h : 0 < length rest) (p : line ≡ take (line_length rest) rest) (q : later ≡ drop (line_length rest) rest) where
   -- one line
   pub led_on : Led text b rest next → (o : Outcome) → o ≡ reply next (line_of line) → Led text b later o.book
