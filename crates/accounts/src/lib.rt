@@ -5,103 +5,100 @@ ghost use Rattle.std.specs.Prelude.{◌≡◌};
 ghost use Rattle.book.specs.Answers.{outcome};
 ghost use Rattle.book.specs.Opening.{opened, opening, next_day};
 ghost use Rattle.book.specs.Accounts.{join, deposit, withdraw, trade};
-ghost use Rattle.book.specs.Lists.{Reached};
 
-use book::{Account, Book, Refusal, Side, flag};
+use book::{Account, Book, Month, Refusal, Side, flag};
 
 // "kind (0 receipts, 1 board), T tonnes per unit 1..20,000, default rate R 0..100 percent, price 1..1,000,000 fen/t"
-pub fn opening(kind: u64, tonnes: u64, rate: u64, price: u64) -> Result<Book, Refusal>
+pub fn opening(kind: u64, tonnes: u64, rate: u64, price: u64) -> Result<Month, Refusal>
     ensures { opened result ≡ opening kind tonnes rate price }
 {
     let board = flag(kind, Refusal::OutOfRange)?;
     if tonnes < 1 || 20_000 < tonnes || 100 < rate || price < 1 || 1_000_000 < price {
         return Err(Refusal::OutOfRange);
     }
-    Ok(Book::fresh(board, tonnes, rate, price))
+    let book = Book::fresh(board, tonnes, rate, price);
+    Ok(Month { book })
 }
 
 // "11 Day price: day + 1; carries the new day."
-pub fn next_day(book: &mut Book, price: u64) -> Result<u64, Refusal>
-    ensures { outcome result book.new ≡ next_day book.old price }
+pub fn next_day(month: &mut Month, price: u64) -> Result<u64, Refusal>
+    ensures { outcome result month.new ≡ next_day month.old price }
 {
     if price < 1 || 1_000_000 < price {
         return Err(Refusal::OutOfRange);
     }
-    if 1_000 <= book.day {
+    if 1_000 <= month.book.day {
         return Err(Refusal::LastDay);
     }
-    book.price = price;
-    book.day += 1;
-    Ok(book.day)
+    month.book.price = price;
+    month.book.day += 1;
+    Ok(month.book.day)
 }
 
 // "1 Join residence, fitness; carries the account number."
-pub fn join(book: &mut Book, residence: u64, fitness: u64) -> Result<u64, Refusal>
-    ensures { outcome result book.new ≡ join book.old residence fitness }
+pub fn join(month: &mut Month, residence: u64, fitness: u64) -> Result<u64, Refusal>
+    ensures { outcome result month.new ≡ join month.old residence fitness }
 {
-    let k = book.account_count;
+    let k = month.book.account_count;
     if Book::ACCOUNTS <= k {
         return Err(Refusal::AccountsFull);
     }
     let overseas = flag(residence, Refusal::OutsideSet)?;
     let fit = flag(fitness, Refusal::OutsideSet)?;
-    book.accounts[k] = Account::new(overseas, fit);
-    book.account_count += 1;
+    month.book.accounts[k] = Account::new(overseas, fit);
+    month.book.account_count += 1;
     Ok(k as u64)
 }
 
 // "2 Deposit account, amount: cash up by it."
-pub fn deposit(book: &mut Book, account: u64, amount: u64) -> Result<u64, Refusal>
-    requires { Reached book.old }
-    ensures { outcome result book.new ≡ deposit book.old account amount }
+pub fn deposit(month: &mut Month, account: u64, amount: u64) -> Result<u64, Refusal>
+    ensures { outcome result month.new ≡ deposit month.old account amount }
 {
-    let k = book.account_place(account)?;
+    let k = month.book.account_place(account)?;
     if amount < 1 || 1_000_000_000_000_000 < amount {
         return Err(Refusal::OutsideSet);
     }
-    if 100_000_000_000_000_000 < book.deposited + amount {
+    if 100_000_000_000_000_000 < month.book.deposited + amount {
         return Err(Refusal::DepositsFull);
     }
-    book.deposited += amount;
-    book.accounts[k].credit(amount);
+    month.book.deposited += amount;
+    month.book.accounts[k].credit(amount);
     Ok(0)
 }
 
 // "3 Withdraw account, amount: cash down by it."
-pub fn withdraw(book: &mut Book, account: u64, amount: u64) -> Result<u64, Refusal>
-    requires { Reached book.old }
-    ensures { outcome result book.new ≡ withdraw book.old account amount }
+pub fn withdraw(month: &mut Month, account: u64, amount: u64) -> Result<u64, Refusal>
+    ensures { outcome result month.new ≡ withdraw month.old account amount }
 {
-    let k = book.account_place(account)?;
+    let k = month.book.account_place(account)?;
     if amount < 1 || 1_000_000_000_000_000 < amount {
         return Err(Refusal::OutsideSet);
     }
-    if book.accounts[k].has_below(amount) {
+    if month.book.accounts[k].has_below(amount) {
         return Err(Refusal::AboveCash);
     }
-    book.accounts[k].debit(amount);
+    month.book.accounts[k].debit(amount);
     Ok(0)
 }
 
 // "4 Trade buyer, seller, units: adds units long to one and short to the other."
-pub fn trade(book: &mut Book, buyer: u64, seller: u64, units: u64) -> Result<u64, Refusal>
-    requires { Reached book.old }
-    ensures { outcome result book.new ≡ trade book.old buyer seller units }
+pub fn trade(month: &mut Month, buyer: u64, seller: u64, units: u64) -> Result<u64, Refusal>
+    ensures { outcome result month.new ≡ trade month.old buyer seller units }
 {
-    if !book.open {
+    if !month.book.open {
         return Err(Refusal::MarketShut);
     }
-    let i = book.account_place(buyer)?;
-    let j = book.account_place(seller)?;
+    let i = month.book.account_place(buyer)?;
+    let j = month.book.account_place(seller)?;
     if i == j {
         return Err(Refusal::BuyerIsSeller);
     }
     if units < 1 || 1_000 < units {
         return Err(Refusal::OutsideSet);
     }
-    let day = book.day;
-    let mut bought = book.accounts[i];
-    let mut sold = book.accounts[j];
+    let day = month.book.day;
+    let mut bought = month.book.accounts[i];
+    let mut sold = month.book.accounts[j];
     if bought.side == Side::Short || sold.side == Side::Long {
         return Err(Refusal::OtherSide);
     }
@@ -113,7 +110,7 @@ pub fn trade(book: &mut Book, buyer: u64, seller: u64, units: u64) -> Result<u64
     }
     bought.add_units(Side::Long, units, day);
     sold.add_units(Side::Short, units, day);
-    book.accounts[i] = bought;
-    book.accounts[j] = sold;
+    month.book.accounts[i] = bought;
+    month.book.accounts[j] = sold;
     Ok(0)
 }

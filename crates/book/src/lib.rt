@@ -4,6 +4,7 @@
 pub mod accounts;
 pub mod calls;
 pub mod matches;
+pub mod month;
 pub mod receipts;
 pub mod refusals;
 pub mod tables;
@@ -11,6 +12,7 @@ pub mod tables;
 pub use accounts::{Account, Lot, Lots, Side};
 pub use calls::Call;
 pub use matches::{Match, Stage};
+pub use month::Month;
 pub use receipts::{Receipt, ReceiptState};
 pub use refusals::{Refusal, flag};
 pub use tables::{Book, Listed};

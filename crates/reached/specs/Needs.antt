@@ -1,13 +1,26 @@
 -- What the code of a call asks of a reached book, to the number what the code asks: rules of `search calls`. Assumes nothing.
-use Rattle.std.specs.Prelude.{ℕ, ◌+◌, ◌*◌, ◌≤◌, ◌<◌, nat_abs}
-use Rattle.std.proofs.Common.{arith, rules, le-ltb, lt-ltb, le-leb, eq-eqb, ne_eqb, Fits}
+use Rattle.std.specs.Prelude.{◌≡◌, ℕ, ◌+◌, ◌*◌, ◌≤◌, ◌<◌, nat_abs}
+use Rattle.std.proofs.Common.{ap, refl, arith, rules, le-ltb, lt-ltb, le-leb, eq-eqb, ne_eqb, Fits}
 use Rattle.std.proofs.lemmas.Bool.{lt-leb}
 use Rattle.std.specs.Int.{w64}
 use Rattle.book.specs.declared.tables.Book.{Book}
 use Rattle.book.specs.Tables.{account_at, match_at}
-use Rattle.book.specs.Lists.{Reached}
+use Rattle.book.specs.declared.calls.Call.{Call}
+use Rattle.book.specs.Outcomes.{Outcome}
+use Rattle.book.specs.Answers.{accept}
+use Rattle.book.specs.Calls.{step}
+use Rattle.book.specs.Opening.{opening}
+use Rattle.book.specs.Lists.{Reached, opened, called}
 use Rattle.book.proofs.laws.Sound.{Sound}
 use Rattle.book.proofs.laws.Reaching.{sound}
+
+-- what an accepted opening makes is reached
+pub begun : {b : Book} (kind t r p : ℕ) → accept 0 b ≡ opening kind t r p → Reached b
+begun kind t r p e = rw (ap (λ (o : Outcome). o.book) e) (opened kind t r p (rw (← e) refl))
+
+-- what an accepted call leaves is reached
+pub kept : {b b' : Book} (n : ℕ) (c : Call) → Reached b → accept n b' ≡ step b c → Reached b'
+kept n c r e = rw (ap (λ (o : Outcome). o.book) e) (called c r)
 
 module _ (b : Book) (r : Reached b) where
   s : Sound b

@@ -1,0 +1,8 @@
+use Rattle.reached.specs.Needs.{begun}
+use Rattle.std.proofs.Common.{rules}
+use Rattle.book.specs.Opening.{opening}
+use Rattle.accounts.proofs.opening.Goals as goal
+
+pub invariant_of-result : goal.invariant_of-result
+unfolding opening
+invariant_of-result c = begun c.args.kind c.args.tonnes c.args.rate c.args.price (search rules)

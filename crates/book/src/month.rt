@@ -1,0 +1,23 @@
+// A contract month: its book, as its opening and its calls have made it.
+
+use crate::tables::Book;
+use std::marker::Model;
+
+// The book of one contract month, reached from an accepted opening by calls: a clause sees the book, and each month's is so.
+#[derive(Clone, Copy)]
+pub struct Month {
+    pub book: Book,
+}
+
+impl Model for Month {
+    ghost use Rattle.book.specs.declared.tables.Book.{Book};
+    ghost use Rattle.book.specs.Lists.{Reached};
+
+    ghost Value = { Book };
+
+    ghost view = { λ month. month.book };
+
+    ghost invariant = { λ month. Reached month.book };
+
+    ghost inverse = { λ b. record { book = b } };
+}
