@@ -1,4 +1,4 @@
--- Document 01's number for each case of an enum. Assumes nothing.
+-- Document 01's number for each case of an enum, and the values of Measure in its order. Assumes nothing.
 use Rattle.std.specs.Prelude.{Bool, true, false, ℕ}
 use Rattle.book.specs.Types.{Sample, Refusal, Side, ReceiptState, Stage, Call}
 
@@ -54,7 +54,7 @@ refusal_number Refusal.TakesFull = 20
 refusal_number Refusal.NoMatch = 21
 refusal_number Refusal.WrongStage = 22
 refusal_number Refusal.BeforeDueDay = 23
-refusal_number Refusal.Unmeasurable = 24
+refusal_number Refusal.MeasuredOutOfRange = 24
 refusal_number Refusal.DepositsFull = 25
 refusal_number Refusal.BadLine = 26
 refusal_number Refusal.BufferShort = 27

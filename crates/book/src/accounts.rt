@@ -32,7 +32,7 @@ impl Lot {
     }
 }
 
-// "up to four opening days with the units of each", in rising order of days; a place with 0 units is free.
+// "up to four opening days with the units of each", in rising order of days; a place with 0 units is free, and no Option: it adds and uses up like any other.
 #[derive(Clone, Copy, PartialEq, Eq)]
 pub struct Lots {
     pub oldest: Lot,
@@ -86,6 +86,7 @@ impl Lots {
     }
 }
 
+// Side beside units, as the papers have it: units inside the side would be a match at each sum.
 // An account: cash in fen, units on its side, the lots that they were opened in, "declared heat or missing", "offered units or missing".
 #[derive(Clone, Copy)]
 pub struct Account {

@@ -1,7 +1,7 @@
 // The calls that change a book.
 use coal::Sample;
 
-// The eighteen calls, in the order of their numbers.
+// The eighteen calls, in the order of their numbers. Codes are numbers: a line may name one outside its set, which the call refuses (8).
 #[derive(Clone, Copy)]
 pub enum Call {
     Join {

@@ -19,7 +19,7 @@ pub enum Refusal {
     NoAccount = 6,
     // "7 buyer is seller"
     BuyerIsSeller = 7,
-    // "8 a code outside its set, amount outside 1..10^15, units outside 1..1,000, Declare's heat out of range"
+    // "8 a code outside its set, amount outside 1..10^15, units outside 1..1,000, Declare's heat out of range"; "Proceeds outside 0..10^15 are refused as 8"
     OutsideSet = 8,
     // "9 buyer is short or seller long in Trade"
     OtherSide = 9,
@@ -52,12 +52,12 @@ pub enum Refusal {
     // "23 Settle before the due day"
     BeforeDueDay = 23,
     // "24 measured value out of range"
-    Unmeasurable = 24,
+    MeasuredOutOfRange = 24,
     // "25 deposits accepted would pass 10^17"
     DepositsFull = 25,
     // "26 a line not of the form, or input above 65,536 bytes"
     BadLine = 26,
-    // a lent buffer that is too short
+    // "27 when the buffer is too short for the page"
     BufferShort = 27,
     // "28 when a trade would need a fifth opening day"
     FifthDay = 28,

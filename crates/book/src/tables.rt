@@ -27,7 +27,7 @@ pub struct Book {
     pub match_count: usize,
 }
 
-// One of a list of buyers or sellers in Close: an account's number, the units left to it, and where it is a lot its day, else 0.
+// One of a list of buyers or sellers in Close: an account's number, the units left to it, and where it is a lot its day, else 0: only lots are compared by day.
 #[derive(Clone, Copy, Default)]
 pub struct Listed {
     pub account: u8,

@@ -12,7 +12,7 @@ ghost use Rattle.text.specs.Page.{right, side_word, class_word, state_word};
 ghost use Rattle.text.specs.Page.{line, account_columns, receipt_columns, match_columns, count_columns};
 ghost use Rattle.text.specs.Page.{page_section, page, lent, page_answer};
 
-use book::{Account, Book, Match, Receipt, ReceiptState, Refusal, Side};
+use book::{Account, Book, Match, Month, Receipt, ReceiptState, Refusal, Side};
 use fields::{print_cash, print_number, print_spaces, print_word};
 use text::{Printer, Row, in_use, print_rows, stage_number};
 
@@ -153,12 +153,12 @@ fn print_page(printer: &mut Printer, book: &Book)
     print_count(printer, b"fund", book.fund);
 }
 
-// The page of a book, at the front of a lent buffer: the answer carries its length; 27, and nothing is written, where the buffer is too short.
+// The page of a month's book, at the front of a lent buffer: the answer carries its length; 27, and nothing is written, where the buffer is too short.
 #[tactic(auto, using(text::proofs::Columns::few))]
-pub fn put_page(out: &mut [u8], book: &Book) -> Result<usize, Refusal>
-    requires { Reached book.now }
-    ensures { (answer_of result ≡ page_answer book.now out.old) × (out.new ≡ lent (page book.now) out.old) }
+pub fn put_page(out: &mut [u8], month: &Month) -> Result<usize, Refusal>
+    ensures { (answer_of result ≡ page_answer month.now out.old) × (out.new ≡ lent (page month.now) out.old) }
 {
+    let book = &month.book;
     // Four lines of their own, and one for each row, of 41 bytes.
     let length = 164 + 41 * (book.account_count + book.receipt_count + book.match_count);
     if out.len() < length {

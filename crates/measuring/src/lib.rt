@@ -83,7 +83,7 @@ pub fn measure(book: &mut Book, number: u64, sample: &Sample) -> Result<u64, Ref
         || 10_000 < sample.quality.volatiles
         || 10_000 < sample.quality.ash
     {
-        return Err(Refusal::Unmeasurable);
+        return Err(Refusal::MeasuredOutOfRange);
     }
     let loaded = cargo(&m.row, book.tonnes, sample);
     let amount = amount_due(&m.row, loaded.settled, &sample.quality);

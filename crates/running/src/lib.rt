@@ -3,50 +3,47 @@
 
 ghost use Rattle.std.specs.Prelude.{◌≡◌, ◌+◌, ◌*◌, ◌≤◌, length};
 ghost use Rattle.book.specs.Answers.{outcome};
-ghost use Rattle.book.specs.Lists.{Reached, after};
+ghost use Rattle.book.specs.Lists.{after};
 ghost use Rattle.reader.specs.Lines.{lines, line_of};
 ghost use Rattle.text.specs.Print.{Put};
 ghost use Rattle.running.specs.Later.{reply, answers, calls_of};
 
-use book::{Book, Refusal};
+use book::{Month, Refusal};
 
 // The answer to a line: its call is made; "26 a line not of the form" leaves the book as it was.
-fn reply(book: &mut Book, line: &[u8]) -> Result<u64, Refusal>
-    requires { Reached book.old }
-    ensures { outcome result book.new ≡ reply book.old (line_of line.now) }
+fn reply(month: &mut Month, line: &[u8]) -> Result<u64, Refusal>
+    ensures { outcome result month.new ≡ reply month.old (line_of line.now) }
 {
     let Ok(call) = reader::read_line(line) else {
         return Err(Refusal::BadLine);
     };
-    calls::apply(book, call)
+    calls::apply(month, call)
 }
 
-// The calls of the lines of a text.
-pub fn run(book: &mut Book, text: &[u8])
-    requires { Reached book.old }
-    ensures { book.new ≡ after book.old (calls_of (lines text.now)) }
+// The calls of the lines of a text. It and `print_run` are four lines each: one over a closure would have to say where in a fold each answer lies.
+pub fn run(month: &mut Month, text: &[u8])
+    ensures { month.new ≡ after month.old (calls_of (lines text.now)) }
 {
     let mut rest = text;
     while !rest.is_empty() {
         let (line, later) = rest.split_at(reader::line_length(rest));
-        let _ = reply(book, line);
+        let _ = reply(month, line);
         rest = later;
     }
 }
 
 // The same, with the answers printed: "Each line prints `ok n` .. or `no n`."
-pub fn print_run(book: &mut Book, text: &[u8], out: &mut [u8], at: usize) -> usize
-    requires reached { Reached book.old }
-    requires room { at + 12 * length text.now + 12 ≤ length out.old }
-    ensures book { book.new ≡ after book.old (calls_of (lines text.now)) }
-    ensures answers { Put out.old out.new at result (answers book.old (lines text.now)) }
+pub fn print_run(month: &mut Month, text: &[u8], out: &mut [u8], at: usize) -> usize
+    requires { at + 12 * length text.now + 12 ≤ length out.old }
+    ensures book { month.new ≡ after month.old (calls_of (lines text.now)) }
+    ensures answers { Put out.old out.new at result (answers month.old (lines text.now)) }
     ensures room { result ≤ at + 12 * length text.now }
 {
     let mut w = at;
     let mut rest = text;
     while !rest.is_empty() {
         let (line, later) = rest.split_at(reader::line_length(rest));
-        let answer = reply(book, line);
+        let answer = reply(month, line);
         w = text::put_answer(out, w, answer);
         rest = later;
     }

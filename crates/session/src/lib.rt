@@ -11,10 +11,10 @@ ghost use Rattle.text.specs.Page.{lent};
 ghost use Rattle.session.specs.Session.{line_one, later, outcome, room, Delivered};
 ghost use Rattle.session.specs.Paging.{lent_count, Paged};
 
-use book::{Book, Refusal};
+use book::{Month, Refusal};
 
-// "Line one is `0 kind T R price`": the book that it opens.
-fn line_one(input: &[u8]) -> Result<Book, Refusal>
+// "Line one is `0 kind T R price`": the month that it opens.
+fn line_one(input: &[u8]) -> Result<Month, Refusal>
     ensures { opened result ≡ line_one input.now }
 {
     if 65_536 < input.len() {
@@ -41,22 +41,22 @@ pub fn session(input: &[u8], out: &mut [u8]) -> usize
     ensures { Delivered input.now out.old out.new result }
 {
     match line_one(input) {
-        Ok(mut book) => {
+        Ok(mut month) => {
             let w = text::put_answer(out, 0, Ok(0));
-            let w = running::print_run(&mut book, later_lines(input), out, w);
-            text::put_ledger(out, w, &book)
+            let w = running::print_run(&mut month, later_lines(input), out, w);
+            text::put_ledger(out, w, &month.book)
         }
         Err(refusal) => text::put_answer(out, 0, Err(refusal)),
     }
 }
 
-// The book after a session; nothing is printed.
-fn outcome(input: &[u8]) -> Result<Book, Refusal>
+// The month after a session; nothing is printed.
+fn outcome(input: &[u8]) -> Result<Month, Refusal>
     ensures { opened result ≡ outcome input.now }
 {
-    let mut book = line_one(input)?;
-    running::run(&mut book, later_lines(input));
-    Ok(book)
+    let mut month = line_one(input)?;
+    running::run(&mut month, later_lines(input));
+    Ok(month)
 }
 
 // A refusal's line, at the front of a lent buffer: how many bytes it has; none, and nothing is written, where the buffer is too short.
@@ -78,7 +78,7 @@ pub fn page(input: &[u8], out: &mut [u8]) -> Option<usize>
     ensures { Paged input.now out.old out.new result }
 {
     match outcome(input) {
-        Ok(book) => columns::put_page(out, &book).ok(),
+        Ok(month) => columns::put_page(out, &month).ok(),
         Err(refusal) => lend_refusal(out, refusal),
     }
 }
