@@ -6,9 +6,8 @@ ghost use Rattle.book.specs.Answers.{outcome};
 ghost use Rattle.book.specs.Rows.{any_class, is_free_of};
 ghost use Rattle.book.specs.Tables.{free_receipts};
 ghost use Rattle.book.specs.Receipts.{lodge, strike};
-ghost use Rattle.book.specs.Lists.{Reached};
 
-use book::{Book, Receipt, ReceiptState, Refusal, flag};
+use book::{Book, Month, Receipt, ReceiptState, Refusal, flag};
 
 // How many of these receipts are free, this owner's and of the class meant: bonded, or either.
 fn count_free(lodged: &[Receipt], bonded: bool, owner: u64) -> usize
@@ -38,41 +37,39 @@ pub fn lacks_receipts(book: &Book, seller: u64, units: u64) -> bool
 }
 
 // "5 Lodge owner, class; carries the receipt number."
-pub fn lodge(book: &mut Book, owner: u64, class: u64) -> Result<u64, Refusal>
-    requires { Reached book.old }
-    ensures { outcome result book.new ≡ lodge book.old owner class }
+pub fn lodge(month: &mut Month, owner: u64, class: u64) -> Result<u64, Refusal>
+    ensures { outcome result month.new ≡ lodge month.old owner class }
 {
-    if book.board {
+    if month.book.board {
         return Err(Refusal::OtherKind);
     }
-    book.account_place(owner)?;
+    month.book.account_place(owner)?;
     let bonded = flag(class, Refusal::OutsideSet)?;
-    let i = book.receipt_count;
+    let i = month.book.receipt_count;
     if Book::RECEIPTS <= i {
         return Err(Refusal::ReceiptsFull);
     }
-    book.receipts[i] = Receipt::new(owner, bonded);
-    book.receipt_count += 1;
+    month.book.receipts[i] = Receipt::new(owner, bonded);
+    month.book.receipt_count += 1;
     Ok(i as u64)
 }
 
 // "6 Strike owner, receipt."
-pub fn strike(book: &mut Book, owner: u64, receipt: u64) -> Result<u64, Refusal>
-    requires { Reached book.old }
-    ensures { outcome result book.new ≡ strike book.old owner receipt }
+pub fn strike(month: &mut Month, owner: u64, receipt: u64) -> Result<u64, Refusal>
+    ensures { outcome result month.new ≡ strike month.old owner receipt }
 {
-    if book.board {
+    if month.book.board {
         return Err(Refusal::OtherKind);
     }
-    book.account_place(owner)?;
-    let i = book.receipt_place(receipt)?;
-    let struck = &mut book.receipts[i];
+    month.book.account_place(owner)?;
+    let i = month.book.receipt_place(receipt)?;
+    let struck = month.book.receipts[i];
     if !struck.is_owned_by(owner) || struck.state == ReceiptState::Struck {
         return Err(Refusal::NoReceipt);
     }
     if struck.state.is_frozen() {
         return Err(Refusal::ReceiptFrozen);
     }
-    struck.state = ReceiptState::Struck;
+    month.book.receipts[i].state = ReceiptState::Struck;
     Ok(0)
 }
