@@ -20,34 +20,48 @@ pub fn opening(kind: u64, tonnes: u64, rate: u64, price: u64) -> Result<Month, R
     Ok(Month { book })
 }
 
-// "11 Day price: day + 1; carries the new day."
-pub fn next_day(month: &mut Month, price: u64) -> Result<u64, Refusal>
-    ensures { outcome result month.new ≡ next_day month.old price }
+// Day, of any book.
+pub fn next_day_of(book: &mut Book, price: u64) -> Result<u64, Refusal>
+    ensures { outcome result book.new ≡ next_day book.old price }
 {
     if price < 1 || 1_000_000 < price {
         return Err(Refusal::OutOfRange);
     }
-    if 1_000 <= month.book.day {
+    if 1_000 <= book.day {
         return Err(Refusal::LastDay);
     }
-    month.book.price = price;
-    month.book.day += 1;
-    Ok(month.book.day)
+    book.price = price;
+    book.day += 1;
+    Ok(book.day)
+}
+
+// "11 Day price: day + 1; carries the new day."
+pub fn next_day(month: &mut Month, price: u64) -> Result<u64, Refusal>
+    ensures { outcome result month.new ≡ next_day month.old price }
+{
+    next_day_of(&mut month.book, price)
+}
+
+// Join, of any book.
+pub fn join_to(book: &mut Book, residence: u64, fitness: u64) -> Result<u64, Refusal>
+    ensures { outcome result book.new ≡ join book.old residence fitness }
+{
+    let k = book.account_count;
+    if Book::ACCOUNTS <= k {
+        return Err(Refusal::AccountsFull);
+    }
+    let overseas = flag(residence, Refusal::OutsideSet)?;
+    let fit = flag(fitness, Refusal::OutsideSet)?;
+    book.accounts[k] = Account::new(overseas, fit);
+    book.account_count += 1;
+    Ok(k as u64)
 }
 
 // "1 Join residence, fitness; carries the account number."
 pub fn join(month: &mut Month, residence: u64, fitness: u64) -> Result<u64, Refusal>
     ensures { outcome result month.new ≡ join month.old residence fitness }
 {
-    let k = month.book.account_count;
-    if Book::ACCOUNTS <= k {
-        return Err(Refusal::AccountsFull);
-    }
-    let overseas = flag(residence, Refusal::OutsideSet)?;
-    let fit = flag(fitness, Refusal::OutsideSet)?;
-    month.book.accounts[k] = Account::new(overseas, fit);
-    month.book.account_count += 1;
-    Ok(k as u64)
+    join_to(&mut month.book, residence, fitness)
 }
 
 // "2 Deposit account, amount: cash up by it."

@@ -126,7 +126,7 @@ impl Account {
         self.cash += amount as i64;
     }
 
-    // "cash down by it"
+    // "cash down by it". It and `credit` are a line each: one of both is no shorter.
     pub fn debit(&mut self, amount: u64)
         requires cash_bound { nat_abs self.old.cash ≤ 2_000_000_000_000_000_000 }
         requires amount_bound { amount ≤ 1_000_000_000_000_000 }

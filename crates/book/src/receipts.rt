@@ -86,7 +86,7 @@ impl Receipt {
         }
     }
 
-    // Free and another's, where it is frozen for this match.
+    // Free and another's, where it is frozen for this match. One of it and `release` would take an Option of the taker, only to take it apart.
     pub fn pass(&mut self, number: u64, taker: u8)
         requires { taker < 32 }
         ensures { self.new ≡ passed number taker self.old }

@@ -4,8 +4,8 @@ ghost use Rattle.book.specs.Opening.{fresh};
 ghost use Rattle.book.specs.Types.{Refusal};
 
 use crate::accounts::Account;
-use crate::matches::{Match, Stage};
-use crate::receipts::{Receipt, ReceiptState};
+use crate::matches::Match;
+use crate::receipts::Receipt;
 use crate::refusals::Refusal;
 
 // The book: kind, T, R, the day's price, and the three tables, each an array of fixed length with how many of its rows are in use: "starts as [v; 256]".
@@ -63,24 +63,9 @@ impl Book {
     pub fn fresh(board: bool, tonnes: u64, rate: u64, price: u64) -> Book
         ensures { result ≡ fresh board tonnes rate price }
     {
-        let receipt = Receipt {
-            owner: 0,
-            bonded: false,
-            state: ReceiptState::Free,
-        };
-        let unmade = Match {
-            held: 0,
-            price: 0,
-            units: 0,
-            due: 0,
-            heat: None,
-            buyer: 0,
-            seller: 0,
-            stage: Stage::Paired,
-        };
         let accounts = [Account::new(false, false); 32];
-        let receipts = [receipt; 256];
-        let matches = [unmade; 256];
+        let receipts = [Receipt::new(0, false); 256];
+        let matches = [Match::new(0, 0, 0, 0, 0, None); 256];
         Book {
             board,
             tonnes,

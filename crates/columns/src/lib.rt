@@ -106,7 +106,7 @@ impl Row<PageForm> for Match {
     }
 }
 
-// A count line, or the fund line.
+// A count line, or the fund line: it pads to 40 before it ends, where `heading` ends at once.
 fn print_count(printer: &mut Printer, word: &[u8], n: u64)
     requires room { HasRoom printer.old 41 }
     requires short { length word.now ≤ 8 }

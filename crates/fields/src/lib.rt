@@ -68,7 +68,7 @@ fn print_yuan(printer: &mut Printer, sign: &[u8], fen: u64)
     printer.last_digit(fen);
 }
 
-// Cash in yuan with two decimals, a minus sign directly before it where it is below zero.
+// Cash in yuan with two decimals, a minus sign directly before it where it is below zero. As `signed`, an `if`, but around another printer.
 pub fn print_cash(printer: &mut Printer, cash: i64)
     requires { HasRoom printer.old 22 }
     ensures printed { Prints printer.old printer.new (right 22 (with_sign yuan cash)) }

@@ -26,7 +26,7 @@ pub fn value(m: &Match, tonnes: u64) -> u64
     m.units as u64 * m.price as u64 * tonnes
 }
 
-// An amount is paid to an account. It and `charge` are a line each: one function of both is no shorter.
+// An amount is paid to an account; `Room n` says how many payments are to come, another number at each call. It and `charge` are a line each: one function of both is no shorter.
 #[tactic(auto, unfolding(book::specs::Tables::pay))]
 pub fn pay(book: &mut Book, account: u8, amount: u64)
     requires account_bound { account < 32 }

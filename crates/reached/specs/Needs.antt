@@ -1,5 +1,5 @@
 -- What the code of a call asks of a reached book, to the number what the code asks: rules of `search calls`. Assumes nothing.
-use Rattle.std.specs.Prelude.{◌≡◌, ℕ, ◌+◌, ◌*◌, ◌≤◌, ◌<◌, nat_abs}
+use Rattle.std.specs.Prelude.{◌≡◌, Result, ℕ, ◌+◌, ◌*◌, ◌≤◌, ◌<◌, nat_abs}
 use Rattle.std.proofs.Common.{ap, refl, arith, rules, le-ltb, lt-ltb, le-leb, eq-eqb, ne_eqb, Fits}
 use Rattle.std.proofs.lemmas.Bool.{lt-leb}
 use Rattle.std.specs.Int.{w64}
@@ -7,7 +7,8 @@ use Rattle.book.specs.declared.tables.Book.{Book}
 use Rattle.book.specs.Tables.{account_at, match_at}
 use Rattle.book.specs.declared.calls.Call.{Call}
 use Rattle.book.specs.Outcomes.{Outcome}
-use Rattle.book.specs.Answers.{accept}
+use Rattle.book.specs.declared.refusals.Refusal.{Refusal}
+use Rattle.book.specs.Answers.{accept, outcome}
 use Rattle.book.specs.Calls.{step}
 use Rattle.book.specs.Opening.{opening}
 use Rattle.book.specs.Lists.{Reached, opened, called}
@@ -17,6 +18,10 @@ use Rattle.book.proofs.laws.Reaching.{sound}
 -- what an accepted opening makes is reached
 pub begun : {b : Book} (kind t r p : ℕ) → accept 0 b ≡ opening kind t r p → Reached b
 begun kind t r p e = rw (ap (λ (o : Outcome). o.book) e) (opened kind t r p (rw (← e) refl))
+
+-- what a call leaves is reached, accepted or refused
+pub left_by : {b b' : Book} (r : Result ℕ Refusal) (c : Call) → Reached b → outcome r b' ≡ step b c → Reached b'
+left_by r c h e = rw (ap (λ (o : Outcome). o.book) e) (called c h)
 
 -- what an accepted call leaves is reached
 pub kept : {b b' : Book} (n : ℕ) (c : Call) → Reached b → accept n b' ≡ step b c → Reached b'

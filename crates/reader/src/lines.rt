@@ -11,7 +11,7 @@ use coal::{Quality, Sample};
 #[derive(Clone, Copy, PartialEq, Eq)]
 pub struct BadLine;
 
-// "Line one is `0 kind T R price`": what it opens a book with.
+// "Line one is `0 kind T R price`": what it opens a book with; `accounts::opening` alone tests the numbers.
 #[derive(Clone, Copy)]
 pub struct Opening {
     pub kind: u64,
@@ -88,6 +88,7 @@ fn call_of(numbers: &[u64]) -> Result<Call, BadLine>
     }
 }
 
+// What line one's numbers open: what it shares with `call_of` is `read_numbers`.
 #[tactic(auto, using(crate::proofs::Calling::opening_counted))]
 fn opening_of(numbers: &[u64]) -> Result<Opening, BadLine>
     ensures { result ≡ opening_of numbers.now }

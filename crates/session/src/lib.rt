@@ -59,7 +59,7 @@ fn outcome(input: &[u8]) -> Result<Month, Refusal>
     Ok(month)
 }
 
-// A refusal's line, at the front of a lent buffer: how many bytes it has; none, and nothing is written, where the buffer is too short.
+// A refusal's line, at the front of a lent buffer: how many bytes it has; none, and nothing is written, where the buffer is too short. Printed apart first, as nothing is written where it does not fit.
 fn lend_refusal(out: &mut [u8], refusal: Refusal) -> Option<usize>
     ensures count { result ≡ lent_count (answer_line (Answer.Refused (refusal_number refusal))) out.old }
     ensures text { out.new ≡ lent (answer_line (Answer.Refused (refusal_number refusal))) out.old }

@@ -111,6 +111,7 @@ fn print_section<T: Row<LedgerForm>>(printer: &mut Printer, word: &[u8], rows: &
     print_rows(printer, rows);
 }
 
+// The page has the same frame; one of both would take the head line and the forms of three rows as a trait.
 fn print_ledger(printer: &mut Printer, book: &Book)
     requires room { HasRoom printer.old 61_971 }
     requires accounts { book.now.account_count ≤ 32 }
