@@ -4,10 +4,9 @@
 ghost use Rattle.std.specs.Prelude.{◌≡◌, ◌≤◌, ◌<◌};
 ghost use Rattle.book.specs.Answers.{outcome};
 ghost use Rattle.book.specs.Settlement.{sold, unsold, auction};
-ghost use Rattle.book.specs.Lists.{Reached};
 ghost use Rattle.payments.specs.Money.{most_paid, Due};
 
-use book::{Book, Match, Refusal, Stage};
+use book::{Book, Match, Month, Refusal, Stage};
 use coal::rounding::percent_down;
 use payments::{ValuedMatch, charge, free_again, handed, pay, set_stage};
 
@@ -41,29 +40,28 @@ fn unsold(book: &mut Book, m: &ValuedMatch)
 
 // "Call 18 names match, winner and proceeds." "Proceeds of zero mean nobody bid": an Option in place of the 0 would be made here and taken apart here.
 #[tactic(auto, using(reached::specs::Needs::calls), unfolding(book::specs::Settlement::auction, book::specs::Settlement::auctioned))]
-pub fn auction(book: &mut Book, number: u64, winner: u64, proceeds: u64) -> Result<u64, Refusal>
-    requires { Reached book.old }
-    ensures { outcome result book.new ≡ auction book.old number winner proceeds }
+pub fn auction(month: &mut Month, number: u64, winner: u64, proceeds: u64) -> Result<u64, Refusal>
+    ensures { outcome result month.new ≡ auction month.old number winner proceeds }
 {
-    let taker = book.account_place(winner)?;
+    let taker = month.book.account_place(winner)?;
     if 1_000_000_000_000_000 < proceeds {
         return Err(Refusal::OutsideSet);
     }
-    book.match_place(number)?;
-    let m = ValuedMatch::of(book, number);
+    month.book.match_place(number)?;
+    let m = ValuedMatch::of(&month.book, number);
     if m.row.stage != Stage::Awaiting {
         return Err(Refusal::WrongStage);
     }
-    if 0 < proceeds && book.accounts[taker].overseas {
+    if 0 < proceeds && month.book.accounts[taker].overseas {
         return Err(Refusal::OverseasWinner);
     }
-    if 0 < proceeds && book.accounts[taker].has_below(proceeds) {
+    if 0 < proceeds && month.book.accounts[taker].has_below(proceeds) {
         return Err(Refusal::AboveWinnersCash);
     }
     if proceeds == 0 {
-        unsold(book, &m);
+        unsold(&mut month.book, &m);
     } else {
-        sold(book, &m, taker as u8, proceeds);
+        sold(&mut month.book, &m, taker as u8, proceeds);
     }
     Ok(0)
 }

@@ -7,11 +7,10 @@ ghost use Rattle.coal.specs.Ranges.{most_weight};
 ghost use Rattle.book.specs.Rows.{heat_value};
 ghost use Rattle.book.specs.Answers.{outcome};
 ghost use Rattle.book.specs.Settlement.{measured, measure, terminated, terminate};
-ghost use Rattle.book.specs.Lists.{Reached};
 ghost use Rattle.payments.specs.Money.{most_paid, Due};
 ghost use Rattle.measuring.specs.Party.{party_number};
 
-use book::{Book, Match, Refusal, Stage};
+use book::{Book, Match, Month, Refusal, Stage};
 use coal::rounding::percent_down;
 use coal::{Quality, Sample, Weighed};
 use payments::{ValuedMatch, charge, pay, punish, set_stage};
@@ -64,15 +63,14 @@ fn measured(book: &mut Book, m: &ValuedMatch, amount: u64)
 
 // "14 Measure match, W, Q, M, S, F, A." "W kg 0..40,000,000,000"; "these five 0..10,000"; "Measure (prepaid)" It carries the kilograms over.
 #[tactic(auto, using(reached::specs::Needs::calls, crate::proofs::Heat::heat_small), unfolding(book::specs::Settlement::measure, book::specs::Settlement::amount_due))]
-pub fn measure(book: &mut Book, number: u64, sample: &Sample) -> Result<u64, Refusal>
-    requires { Reached book.old }
-    ensures { outcome result book.new ≡ measure book.old number sample.now.weight sample.now.quality.heat sample.now.moisture sample.now.quality.sulphur sample.now.quality.volatiles sample.now.quality.ash }
+pub fn measure(month: &mut Month, number: u64, sample: &Sample) -> Result<u64, Refusal>
+    ensures { outcome result month.new ≡ measure month.old number sample.now.weight sample.now.quality.heat sample.now.moisture sample.now.quality.sulphur sample.now.quality.volatiles sample.now.quality.ash }
 {
-    if !book.board {
+    if !month.book.board {
         return Err(Refusal::OtherKind);
     }
-    book.match_place(number)?;
-    let m = ValuedMatch::of(book, number);
+    month.book.match_place(number)?;
+    let m = ValuedMatch::of(&month.book, number);
     if m.row.stage != Stage::Prepaid {
         return Err(Refusal::WrongStage);
     }
@@ -85,9 +83,9 @@ pub fn measure(book: &mut Book, number: u64, sample: &Sample) -> Result<u64, Ref
     {
         return Err(Refusal::MeasuredOutOfRange);
     }
-    let loaded = cargo(&m.row, book.tonnes, sample);
+    let loaded = cargo(&m.row, month.book.tonnes, sample);
     let amount = amount_due(&m.row, loaded.settled, &sample.quality);
-    measured(book, &m, amount);
+    measured(&mut month.book, &m, amount);
     Ok(loaded.over)
 }
 
@@ -133,19 +131,18 @@ fn terminated(book: &mut Book, m: &ValuedMatch, party: Party)
 
 // "16 Terminate match, party (0 buyer, 1 seller, 2 both)." "Terminate (prepaid)"
 #[tactic(auto, unfolding(book::specs::Settlement::terminate))]
-pub fn terminate(book: &mut Book, number: u64, party: u64) -> Result<u64, Refusal>
-    requires { Reached book.old }
-    ensures { outcome result book.new ≡ terminate book.old number party }
+pub fn terminate(month: &mut Month, number: u64, party: u64) -> Result<u64, Refusal>
+    ensures { outcome result month.new ≡ terminate month.old number party }
 {
-    if !book.board {
+    if !month.book.board {
         return Err(Refusal::OtherKind);
     }
     let party = Party::try_from(party)?;
-    book.match_place(number)?;
-    let m = ValuedMatch::of(book, number);
+    month.book.match_place(number)?;
+    let m = ValuedMatch::of(&month.book, number);
     if m.row.stage != Stage::Prepaid {
         return Err(Refusal::WrongStage);
     }
-    terminated(book, &m, party);
+    terminated(&mut month.book, &m, party);
     Ok(0)
 }

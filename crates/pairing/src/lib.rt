@@ -6,9 +6,8 @@ ghost use Rattle.book.specs.Counting.{iter};
 ghost use Rattle.book.specs.Pairing.{freeze_turn, pair};
 ghost use Rattle.book.specs.Offers.{take_offer};
 ghost use Rattle.book.specs.Answers.{outcome};
-ghost use Rattle.book.specs.Lists.{Reached};
 
-use book::{Book, Match, Receipt, Refusal, Side};
+use book::{Book, Match, Month, Receipt, Refusal, Side};
 
 // "freezes the seller's lowest-numbered free receipts, as many as the units or as there are"; it stops once none is left to freeze.
 fn freeze(lodged: &mut [Receipt], bonded: bool, seller: u64, number: u64, units: u64)
@@ -55,32 +54,31 @@ pub fn pair(book: &mut Book, bonded_only: bool, days: u64, buyer: u64, seller: u
 }
 
 // "10 Take buyer, seller: the whole offer becomes a match due in 2 days; the offer ends; carries the match number."
-pub fn take_offer(book: &mut Book, buyer: u64, seller: u64) -> Result<u64, Refusal>
-    requires { Reached book.old }
-    ensures { outcome result book.new ≡ take_offer book.old buyer seller }
+pub fn take_offer(month: &mut Month, buyer: u64, seller: u64) -> Result<u64, Refusal>
+    ensures { outcome result month.new ≡ take_offer month.old buyer seller }
 {
-    if !book.open {
+    if !month.book.open {
         return Err(Refusal::MarketShut);
     }
-    let i = book.account_place(buyer)?;
-    let j = book.account_place(seller)?;
+    let i = month.book.account_place(buyer)?;
+    let j = month.book.account_place(seller)?;
     if i == j {
         return Err(Refusal::BuyerIsSeller);
     }
-    let bought = book.accounts[i];
-    let sold = book.accounts[j];
+    let bought = month.book.accounts[i];
+    let sold = month.book.accounts[j];
     let units = sold.offer.ok_or(Refusal::NoOffer)? as u64;
     if bought.units_of(Side::Long) < units {
         return Err(Refusal::AboveUnits);
     }
-    if receipts::lacks_receipts(book, seller, units) {
+    if receipts::lacks_receipts(&month.book, seller, units) {
         return Err(Refusal::AboveReceipts);
     }
-    let number = book.match_count;
+    let number = month.book.match_count;
     if Book::TAKE_MATCHES <= number {
         return Err(Refusal::TakesFull);
     }
-    pair(book, false, 2, buyer, seller, units);
-    book.accounts[j].offer = None;
+    pair(&mut month.book, false, 2, buyer, seller, units);
+    month.book.accounts[j].offer = None;
     Ok(number as u64)
 }

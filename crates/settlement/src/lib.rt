@@ -8,10 +8,9 @@ ghost use Rattle.book.specs.Answers.{outcome};
 ghost use Rattle.book.specs.Rows.{heat_missing, is_frozen_for, is_ordinary_for};
 ghost use Rattle.book.specs.Tables.{frozen_receipts};
 ghost use Rattle.book.specs.Settlement.{buyer_fault, seller_fault, into_held, to_auction, paid_stage, fault_ended, paid, pay_match, invoice, hand_over};
-ghost use Rattle.book.specs.Lists.{Reached};
 ghost use Rattle.payments.specs.Money.{percent_of, valued, Due};
 
-use book::{Book, Receipt, Refusal, Stage};
+use book::{Book, Month, Receipt, Refusal, Stage};
 use payments::{ValuedMatch, charge, fault, free_again, handed, pay, punish, set_stage};
 
 // ---- Pay
@@ -144,21 +143,20 @@ fn paid(book: &mut Book, m: &ValuedMatch, x: Option<u64>, y: Option<u64>)
 
 // "Pay (call 13) judges faults as Settle did, ends the match on a fault, and otherwise moves V into money held."
 #[tactic(auto, using(reached::specs::Needs::calls), unfolding(book::specs::Settlement::pay_match))]
-pub fn pay_match(book: &mut Book, number: u64) -> Result<u64, Refusal>
-    requires { Reached book.old }
-    ensures { outcome result book.new ≡ pay_match book.old number }
+pub fn pay_match(month: &mut Month, number: u64) -> Result<u64, Refusal>
+    ensures { outcome result month.new ≡ pay_match month.old number }
 {
-    book.match_place(number)?;
-    let m = ValuedMatch::of(book, number);
+    month.book.match_place(number)?;
+    let m = ValuedMatch::of(&month.book, number);
     if m.row.stage != Stage::Paired {
         return Err(Refusal::WrongStage);
     }
-    if book.day < m.row.due as u64 {
+    if month.book.day < m.row.due as u64 {
         return Err(Refusal::BeforeDueDay);
     }
-    let x = buyer_fault(book, &m);
-    let y = seller_fault(book, &m);
-    paid(book, &m, x, y);
+    let x = buyer_fault(&month.book, &m);
+    let y = seller_fault(&month.book, &m);
+    paid(&mut month.book, &m, x, y);
     Ok(0)
 }
 
@@ -166,16 +164,15 @@ pub fn pay_match(book: &mut Book, number: u64) -> Result<u64, Refusal>
 
 // "Hand over (call 17) takes a funded match, passes the receipts and pays the seller's 80%."
 #[tactic(auto, using(reached::specs::Needs::calls, payments::proofs::Money::handing_due), unfolding(book::specs::Settlement::hand_over))]
-pub fn hand_over(book: &mut Book, number: u64) -> Result<u64, Refusal>
-    requires { Reached book.old }
-    ensures { outcome result book.new ≡ hand_over book.old number }
+pub fn hand_over(month: &mut Month, number: u64) -> Result<u64, Refusal>
+    ensures { outcome result month.new ≡ hand_over month.old number }
 {
-    book.match_place(number)?;
-    let m = ValuedMatch::of(book, number);
+    month.book.match_place(number)?;
+    let m = ValuedMatch::of(&month.book, number);
     if m.row.stage != Stage::Funded {
         return Err(Refusal::WrongStage);
     }
-    handed(book, &m, m.row.buyer);
+    handed(&mut month.book, &m, m.row.buyer);
     Ok(0)
 }
 
@@ -183,16 +180,15 @@ pub fn hand_over(book: &mut Book, number: u64) -> Result<u64, Refusal>
 
 // "15 Invoice match." "Invoice (held): the money held goes to the seller; closed."
 #[tactic(auto, using(reached::specs::Needs::calls), unfolding(book::specs::Settlement::invoice))]
-pub fn invoice(book: &mut Book, number: u64) -> Result<u64, Refusal>
-    requires { Reached book.old }
-    ensures { outcome result book.new ≡ invoice book.old number }
+pub fn invoice(month: &mut Month, number: u64) -> Result<u64, Refusal>
+    ensures { outcome result month.new ≡ invoice month.old number }
 {
-    let j = book.match_place(number)?;
-    let m = book.matches[j];
+    let j = month.book.match_place(number)?;
+    let m = month.book.matches[j];
     if m.stage != Stage::Held {
         return Err(Refusal::WrongStage);
     }
-    pay(book, m.seller, m.held);
-    set_stage(book, number, 0, Stage::Closed);
+    pay(&mut month.book, m.seller, m.held);
+    set_stage(&mut month.book, number, 0, Stage::Closed);
     Ok(0)
 }
