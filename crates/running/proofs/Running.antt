@@ -5,7 +5,7 @@ use Rattle.std.proofs.lemmas.List.{nil_from_length}
 use Rattle.book.specs.declared.calls.Call.{Call}
 use Rattle.book.specs.declared.tables.Book.{Book}
 use Rattle.book.specs.Outcomes.{Outcome}
-use Rattle.book.specs.Lists.{Reached, called, after}
+use Rattle.book.specs.Lists.{after}
 use Rattle.book.proofs.laws.Counting.{by_pick}
 use Rattle.reader.specs.declared.lines.BadLine.{BadLine}
 use Rattle.reader.specs.Numbers.{is_digit, numbers, numbers_on}
@@ -15,11 +15,6 @@ use Rattle.reader.proofs.Cutting.{Cut, cut_some}
 use Rattle.text.proofs.Printing.{put_then, put_none}
 use Rattle.running.specs.Later.{reply, answers, call_then, calls_of}
 
--- a reply leaves a reached book
-reply_reached : (b : Book) (l : Result Call BadLine) → Reached b → Reached (reply b l).book
-reply_reached b (Ok c) h = called c h
-reply_reached b (Err e) h = h
-
 -- the calls of a line and of those after it, from the book that it was answered in
 after_line : (b : Book) (l : Result Call BadLine) (cs : List Call) → after b (call_then l cs) ≡ after (reply b l).book cs
 unfolding after
@@ -28,9 +23,8 @@ after_line b (Err e) cs = refl
 
 -- ---- the lines run
 
--- with so much of the text to come the book is reached, and the calls to come lead to the book after them all
+-- with so much of the text to come the calls to come lead to the book after them all
 pub record Led (text : List ℕ) (b : Book) (rest : List ℕ) (next : Book) : Type 0 where
-  pub reached : Reached next
   pub same : after next (calls_of (lines rest)) ≡ after b (calls_of (lines text))
 
 module _ (rest : List ℕ) (h : 0 < length rest) where
@@ -44,11 +38,7 @@ module _ {text rest line later : List ℕ} {b next : Book} (h : 0 < length rest)
   -- one line
   pub led_on : Led text b rest next → (o : Outcome) → o ≡ reply next (line_of line) → Led text b later o.book
   unfolding calls_of
-  led_on i o e =
-      record {
-        reached = rw e (reply_reached next (line_of line) i.reached);
-        same = rw e (sym (after_line next (line_of line) (calls_of (lines later))) ∙ (rw (first rest h p q) at i.same));
-      }
+  led_on i o e = record { same = rw e (sym (after_line next (line_of line) (calls_of (lines later))) ∙ (rw (first rest h p q) at i.same)) }
 
 -- none is left
 pub led_all : {text rest : List ℕ} {b next : Book} → Led text b rest next → length rest ≡ 0 → next ≡ after b (calls_of (lines text))

@@ -76,9 +76,6 @@ unfolding after
 after_reached {b = b} [] h = h
 after_reached {b = b} (c ∷ cs) h = after_reached {b = (step b c).book} cs (called c h)
 
-pub run_reached : {b b' : Book} (cs : List Call) → Reached b → b' ≡ after b cs → Reached b'
-run_reached cs h e = rw e (after_reached cs h)
-
 -- ---- the whole, from line one on
 
 module _ (s : List ℕ) (n : ℕ) (e : refuse n no_book ≡ line_one s) where
@@ -116,6 +113,3 @@ unfolding outcome
 outcome_led s = by_pick (λ (o : Outcome). is_accepted o.answer ≡ true → Reached o.book) (is_accepted (line_one s).answer)
     (λ a _. after_reached (calls_of (later (lines s))) (begun s a).reached)
     (λ a h. absurd (true≢false (sym h ∙ a)))
-
-pub outcome_reached : (s : List ℕ) {b : Book} → accept 0 b ≡ outcome s → Reached b
-outcome_reached s e = rw (ap (λ (o : Outcome). o.book) e) (outcome_led s (rw (← e) refl))

@@ -4,7 +4,7 @@ use Rattle.running.proofs.Running.{Led}
 use Rattle.running.proofs.run.Given as goal
 
 abbrev pub invariant-loop-rest : goal.invariant-loop-rest
-invariant-loop-rest l = Led l.text l.initial.book l.rest l.book
+invariant-loop-rest l = Led l.text l.initial.month l.rest l.month
 
 abbrev pub decreases-loop-rest : goal.decreases-loop-rest
 decreases-loop-rest l = length l.rest

@@ -1,10 +1,6 @@
 use Rattle.std.proofs.Common.{rules}
-use Rattle.session.proofs.Starting.{outcome_reached}
 use Rattle.session.proofs.Paging.{page_paged, line_paged, page_counted}
 use Rattle.session.proofs.page.Goals as goal
-
-pub put_page-requires : goal.put_page-requires
-put_page-requires c = outcome_reached c.args.input.now c.in-Ok.ensures
 
 pub returns-in-Ok : goal.returns-in-Ok
 returns-in-Ok c =
