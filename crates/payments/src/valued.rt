@@ -14,7 +14,7 @@ pub struct ValuedMatch {
 }
 
 impl ValuedMatch {
-    // The match of a number, where the book has it.
+    // The match of a number, where the book has it. Each call asks place and stage by itself: one function of the three needs a definition of what it refuses and its law in each call, longer than they are.
     #[tactic(auto, using(reached::specs::Needs::calls, crate::proofs::Money::due_sound), unfolding(book::specs::Settlement::value))]
     pub fn of(book: &Book, number: u64) -> ValuedMatch
         requires reached { Reached book.now }
