@@ -14,7 +14,7 @@ use Rattle.book.specs.Answers.{refuse_if, accept}
 unfoldable pub value : Book → Match → ℕ
 value b m = m.units * m.price * b.tonnes
 
--- ---- penalties
+-- ---- penalties: a party's fault is the percent of V that it costs, None where it has none
 
 -- "Seller's fault: unfit (10%), else receipts book with fewer frozen than units, or board book with heat missing (R%)."
 unfoldable pub seller_fault : Book → ℕ → Option ℕ

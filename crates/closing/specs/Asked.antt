@@ -12,7 +12,7 @@ use Rattle.book.specs.Closing.{with_units}
 use Rattle.closing.specs.declared.Queue.{Queue}
 use Rattle.book.proofs.laws.Walking.{left_of}
 
--- what a pairing asks of a book, but for room
+-- what a pairing asks of a book, but for room; between the passes a book is no month's
 pub record Ready (b : Book) : Type 0 where
   pub price_few : b.price ≤ 1_000_000
   pub day_few : b.day ≤ 1_000

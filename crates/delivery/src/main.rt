@@ -1,4 +1,4 @@
-// The session program: standard input is the session, standard output its answers and its ledger.
+// The session program: standard input is the session, standard output its answers and its ledger. `page` and `heat_table` differ in what is printed, which is most of each.
 #![tactic(auto)]
 
 use std::io;

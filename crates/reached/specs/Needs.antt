@@ -1,5 +1,5 @@
 -- What the code of a call asks of a reached book, to the number what the code asks: rules of `search calls`. Assumes nothing.
-use Rattle.std.specs.Prelude.{◌≡◌, Result, ℕ, ◌+◌, ◌*◌, ◌≤◌, ◌<◌, nat_abs}
+use Rattle.std.specs.Prelude.{◌≡◌, Result, Ok, ℕ, ◌+◌, ◌*◌, ◌≤◌, ◌<◌, nat_abs}
 use Rattle.std.proofs.Common.{ap, refl, arith, rules, le-ltb, lt-ltb, le-leb, eq-eqb, ne_eqb, Fits}
 use Rattle.std.proofs.lemmas.Bool.{lt-leb}
 use Rattle.std.specs.Int.{w64}
@@ -25,7 +25,7 @@ left_by r c h e = rw (ap (λ (o : Outcome). o.book) e) (called c h)
 
 -- what an accepted call leaves is reached
 pub kept : {b b' : Book} (n : ℕ) (c : Call) → Reached b → accept n b' ≡ step b c → Reached b'
-kept n c r e = rw (ap (λ (o : Outcome). o.book) e) (called c r)
+kept n c r e = left_by (Ok n) c r e
 
 module _ (b : Book) (r : Reached b) where
   s : Sound b
