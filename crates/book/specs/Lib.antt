@@ -1,6 +1,7 @@
 pub mod Outcomes
 pub mod Types
 pub mod Codes
+pub mod Amounts
 pub mod Counting
 pub mod Rows
 pub mod Tables

@@ -5,6 +5,8 @@ ghost use Rattle.coal.specs.Choice.{pick};
 ghost use Rattle.book.specs.Rows.{blank_account, is_on, needs_fifth, lots_on, lot_off, lots_off, credited, debited, units_on, units_off};
 ghost use Rattle.book.specs.Accounts.{joined_account};
 
+use crate::amounts::Amount;
+
 // "a side (0 none, 1 long, 2 short)": each with its number.
 #[derive(Clone, Copy, PartialEq, Eq)]
 pub enum Side {
@@ -118,21 +120,19 @@ impl Account {
     }
 
     // "cash up by it"
-    pub fn credit(&mut self, amount: u64)
-        requires cash_bound { nat_abs self.old.cash ≤ 2_000_000_000_000_000_000 }
-        requires amount_bound { amount ≤ 1_000_000_000_000_000 }
+    pub fn credit(&mut self, amount: Amount)
+        requires { nat_abs self.old.cash ≤ 2_000_000_000_000_000_000 }
         ensures { self.new ≡ credited self.old amount }
     {
-        self.cash += amount as i64;
+        self.cash += amount.fen as i64;
     }
 
     // "cash down by it". It and `credit` are a line each: one of both is no shorter.
-    pub fn debit(&mut self, amount: u64)
-        requires cash_bound { nat_abs self.old.cash ≤ 2_000_000_000_000_000_000 }
-        requires amount_bound { amount ≤ 1_000_000_000_000_000 }
+    pub fn debit(&mut self, amount: Amount)
+        requires { nat_abs self.old.cash ≤ 2_000_000_000_000_000_000 }
         ensures { self.new ≡ debited self.old amount }
     {
-        self.cash -= amount as i64;
+        self.cash -= amount.fen as i64;
     }
 
     // "cash below V": whether the account has less than an amount.

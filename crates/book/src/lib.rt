@@ -2,6 +2,7 @@
 #![tactic(auto)]
 
 pub mod accounts;
+pub mod amounts;
 pub mod calls;
 pub mod matches;
 pub mod month;
@@ -10,9 +11,10 @@ pub mod refusals;
 pub mod tables;
 
 pub use accounts::{Account, Lot, Lots, Side};
+pub use amounts::{Amount, Percent};
 pub use calls::Call;
 pub use matches::{Match, Stage};
 pub use month::Month;
 pub use receipts::{Receipt, ReceiptState};
 pub use refusals::{Refusal, flag};
-pub use tables::{Book, Listed};
+pub use tables::{Book, Listed, in_use};

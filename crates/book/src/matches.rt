@@ -1,5 +1,5 @@
 // A match: units of a buyer and a seller, and how far it is settled.
-ghost use Rattle.std.specs.Prelude.{◌≡◌, ◌<◌, ◌≤◌};
+ghost use Rattle.std.specs.Prelude.{◌≡◌};
 ghost use Rattle.book.specs.Rows.{with_held};
 ghost use Rattle.book.specs.Types.{Stage};
 
@@ -30,29 +30,17 @@ pub struct Match {
 
 impl Match {
     // "buyer, seller, units, price of its day, due day, seller's declared heat at pairing or missing": a match as it is made, paired, with no money held.
-    pub fn new(
-        buyer: u64,
-        seller: u64,
-        units: u64,
-        price: u64,
-        due: u64,
-        heat: Option<u16>,
-    ) -> Match
-        requires buyer_bound { buyer < 32 }
-        requires seller_bound { seller < 32 }
-        requires units_bound { units < 65_536 }
-        requires price_bound { price ≤ 1_000_000 }
-        requires due_bound { due < 65_536 }
+    pub fn new(buyer: u8, seller: u8, units: u16, price: u32, due: u16, heat: Option<u16>) -> Match
         ensures { result ≡ record { held = 0; price = price; units = units; due = due; heat = heat; buyer = buyer; seller = seller; stage = Stage.Paired } }
     {
         Match {
             held: 0,
-            price: price as u32,
-            units: units as u16,
-            due: due as u16,
+            price,
+            units,
+            due,
             heat,
-            buyer: buyer as u8,
-            seller: seller as u8,
+            buyer,
+            seller,
             stage: Stage::Paired,
         }
     }

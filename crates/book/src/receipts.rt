@@ -1,5 +1,5 @@
 // A receipt: one unit of goods in a warehouse.
-ghost use Rattle.std.specs.Prelude.{◌≡◌, ◌<◌, eqb};
+ghost use Rattle.std.specs.Prelude.{◌≡◌, eqb};
 ghost use Rattle.book.specs.Rows.{is_frozen, is_frozen_for, is_ordinary_for, is_free_of, frozen_for, released, passed};
 ghost use Rattle.book.specs.Receipts.{lodged_receipt};
 
@@ -30,12 +30,11 @@ pub struct Receipt {
 
 impl Receipt {
     // "owner, class (0 ordinary, 1 bonded), state (0 free, ..)": a receipt as it is lodged.
-    pub fn new(owner: u64, bonded: bool) -> Receipt
-        requires { owner < 32 }
+    pub fn new(owner: u8, bonded: bool) -> Receipt
         ensures { result ≡ lodged_receipt owner bonded }
     {
         Receipt {
-            owner: owner as u8,
+            owner,
             bonded,
             state: ReceiptState::Free,
         }
@@ -70,11 +69,10 @@ impl Receipt {
     }
 
     // "frozen for a match"
-    pub fn freeze(&mut self, number: u64)
-        requires { number < 256 }
+    pub fn freeze(&mut self, number: u8)
         ensures { self.new ≡ frozen_for number self.old }
     {
-        self.state = ReceiptState::Frozen(number as u8);
+        self.state = ReceiptState::Frozen(number);
     }
 
     // Free again, where it is frozen for this match.
@@ -88,7 +86,6 @@ impl Receipt {
 
     // Free and another's, where it is frozen for this match. One of it and `release` would take an Option of the taker, only to take it apart.
     pub fn pass(&mut self, number: u64, taker: u8)
-        requires { taker < 32 }
         ensures { self.new ≡ passed number taker self.old }
     {
         if self.is_frozen_for(number) {

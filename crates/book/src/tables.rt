@@ -1,5 +1,5 @@
 // The book: its terms, its state of the day, and its three tables.
-ghost use Rattle.std.specs.Prelude.{◌≡◌, ◌≤◌, ◌<◌, IfOk, IfErr};
+ghost use Rattle.std.specs.Prelude.{◌≡◌, ◌≤◌, ◌<◌, IfOk, IfErr, length, take};
 ghost use Rattle.book.specs.Opening.{fresh};
 ghost use Rattle.book.specs.Types.{Refusal};
 
@@ -33,6 +33,15 @@ pub struct Listed {
     pub account: u8,
     pub left: u16,
     pub day: u16,
+}
+
+// The rows of a table that are in use, the first so many.
+pub fn in_use<T, const N: usize>(table: &[T; N], count: usize) -> &[T]
+    requires { count ≤ N }
+    ensures rows { result.now ≡ take count table.now }
+    ensures many { length result.now ≡ count }
+{
+    &table[..count]
 }
 
 // A row's place by its number, where the table has it.
