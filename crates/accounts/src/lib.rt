@@ -6,14 +6,14 @@ ghost use Rattle.book.specs.Answers.{outcome};
 ghost use Rattle.book.specs.Opening.{opened, opening, next_day};
 ghost use Rattle.book.specs.Accounts.{join, deposit, withdraw, trade};
 
-use book::{Account, Book, Month, Refusal, Side, flag};
+use book::{Account, Amount, Book, Month, Refusal, Side, flag};
 
 // "kind (0 receipts, 1 board), T tonnes per unit 1..20,000, default rate R 0..100 percent, price 1..1,000,000 fen/t"
 pub fn opening(kind: u64, tonnes: u64, rate: u64, price: u64) -> Result<Month, Refusal>
     ensures { opened result ≡ opening kind tonnes rate price }
 {
     let board = flag(kind, Refusal::OutOfRange)?;
-    if tonnes < 1 || 20_000 < tonnes || 100 < rate || price < 1 || 1_000_000 < price {
+    if !(1..=20_000).contains(&tonnes) || 100 < rate || !(1..=1_000_000).contains(&price) {
         return Err(Refusal::OutOfRange);
     }
     let book = Book::fresh(board, tonnes, rate, price);
@@ -24,7 +24,7 @@ pub fn opening(kind: u64, tonnes: u64, rate: u64, price: u64) -> Result<Month, R
 pub fn next_day_of(book: &mut Book, price: u64) -> Result<u64, Refusal>
     ensures { outcome result book.new ≡ next_day book.old price }
 {
-    if price < 1 || 1_000_000 < price {
+    if !(1..=1_000_000).contains(&price) {
         return Err(Refusal::OutOfRange);
     }
     if 1_000 <= book.day {
@@ -69,13 +69,14 @@ pub fn deposit(month: &mut Month, account: u64, amount: u64) -> Result<u64, Refu
     ensures { outcome result month.new ≡ deposit month.old account amount }
 {
     let k = month.book.account_place(account)?;
-    if amount < 1 || 1_000_000_000_000_000 < amount {
+    if amount == 0 {
         return Err(Refusal::OutsideSet);
     }
-    if 100_000_000_000_000_000 < month.book.deposited + amount {
+    let amount = Amount::try_from(amount)?;
+    if 100_000_000_000_000_000 < month.book.deposited + amount.fen {
         return Err(Refusal::DepositsFull);
     }
-    month.book.deposited += amount;
+    month.book.deposited += amount.fen;
     month.book.accounts[k].credit(amount);
     Ok(0)
 }
@@ -85,10 +86,11 @@ pub fn withdraw(month: &mut Month, account: u64, amount: u64) -> Result<u64, Ref
     ensures { outcome result month.new ≡ withdraw month.old account amount }
 {
     let k = month.book.account_place(account)?;
-    if amount < 1 || 1_000_000_000_000_000 < amount {
+    if amount == 0 {
         return Err(Refusal::OutsideSet);
     }
-    if month.book.accounts[k].has_below(amount) {
+    let amount = Amount::try_from(amount)?;
+    if month.book.accounts[k].has_below(amount.fen) {
         return Err(Refusal::AboveCash);
     }
     month.book.accounts[k].debit(amount);
@@ -107,7 +109,7 @@ pub fn trade(month: &mut Month, buyer: u64, seller: u64, units: u64) -> Result<u
     if i == j {
         return Err(Refusal::BuyerIsSeller);
     }
-    if units < 1 || 1_000 < units {
+    if !(1..=1_000).contains(&units) {
         return Err(Refusal::OutsideSet);
     }
     let day = month.book.day;

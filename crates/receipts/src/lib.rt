@@ -7,7 +7,7 @@ ghost use Rattle.book.specs.Rows.{any_class, is_free_of};
 ghost use Rattle.book.specs.Tables.{free_receipts};
 ghost use Rattle.book.specs.Receipts.{lodge, strike};
 
-use book::{Book, Month, Receipt, ReceiptState, Refusal, flag};
+use book::{Book, Month, Receipt, ReceiptState, Refusal, flag, in_use};
 
 // How many of these receipts are free, this owner's and of the class meant: bonded, or either.
 fn count_free(lodged: &[Receipt], bonded: bool, owner: u64) -> usize
@@ -25,7 +25,7 @@ pub fn free_receipts(book: &Book, bonded: bool, owner: u64) -> u64
     requires { book.now.receipt_count ≤ 256 }
     ensures { result ≡ free_receipts book.now bonded owner }
 {
-    count_free(&book.receipts[..book.receipt_count], bonded, owner) as u64
+    count_free(in_use(&book.receipts, book.receipt_count), bonded, owner) as u64
 }
 
 // "receipts book, above the seller's free receipts": whether a receipts book lacks receipts for so many units.
@@ -49,7 +49,7 @@ pub fn lodge(month: &mut Month, owner: u64, class: u64) -> Result<u64, Refusal>
     if Book::RECEIPTS <= i {
         return Err(Refusal::ReceiptsFull);
     }
-    month.book.receipts[i] = Receipt::new(owner, bonded);
+    month.book.receipts[i] = Receipt::new(owner as u8, bonded);
     month.book.receipt_count += 1;
     Ok(i as u64)
 }
