@@ -9,10 +9,11 @@ use mathlib.Core.List.{List, [], ◌∷◌, ◌++◌}
 use mathlib.Core.Logic.{◌≢◌, ◌⊎◌, inl, inr}
 use lib.ListN.{length, get_or, take, drop, drop_of_length-le, length-append, take-append-drop}
 use lib.Seq.{drop-cons, get_or-append_seam}
-use Rattle.std.specs.Prelude.{Option, None, Some, Result, Ok, Err, OnErr}
+use Rattle.std.specs.Prelude.{Option, None, Some, Result, Ok, Err, OnErr, IfSome, IsSome}
 use Rattle.std.specs.Result.{IsErr}
 use Rattle.std.proofs.lemmas.Result.{MatchResult-from_err}
 use Rattle.std.proofs.lemmas.Bool.Decides.{nat_tests}
+use Rattle.std.proofs.Common.{rules}
 use Rattle.coal.specs.Choice.{pick}
 use Rattle.reader.specs.declared.lines.BadLine.{BadLine}
 use Rattle.reader.specs.Numbers.{takes_digit, ends_number, with_digit, numbers_on, numbers}
@@ -176,5 +177,10 @@ module _ {line text ns : List ℕ} {i : ℕ} {n : Option ℕ} (r : HalfRead line
 
     pub read_nothing : (n ≡ None) ⊎ (length ns ≡ 8) → numbers line ≡ []
     read_nothing o = last ∙ rw (not_ended n r.digits r.value ns r.is o)
+
+-- a number that has ended is one of those that are read
+pub one_read : (n : Option ℕ) (a b : List ℕ) → IfSome n (λ x. (length b < 8) × (a ≡ b ++ (x ∷ []))) × IsSome n → 0 < length a
+one_read None a b r = search (rules, r)
+one_read (Some x) a b r = rw r.0.1 (omega (arith, length-append b (x ∷ [])))
 
 pub ruleset read = (no_bytes, no_newline, read_digit, read_space)

@@ -39,7 +39,7 @@ fn push(numbers: &mut ArrayVec<u64, 8>, number: Option<u64>) -> Result<(), BadLi
 // The numbers of a line; "lines ended by one newline .. one space between".
 #[tactic(auto, using(crate::proofs::Reading::read))]
 pub fn read_numbers(line: &[u8]) -> Result<ArrayVec<u64, 8>, BadLine>
-    ensures read { IfOk result (λ v. v.items ≡ numbers line.now) }
+    ensures read { IfOk result (λ v. (v.items ≡ numbers line.now) × (0 < array_vec_len v)) }
     ensures bad { OnErr result (numbers line.now ≡ []) }
 {
     let [text @ .., b'\n'] = line else {

@@ -1,6 +1,6 @@
 use mathlib.Core.Logic.{inl, inr}
 use Rattle.std.proofs.Common.{rules, arith}
-use Rattle.reader.proofs.Reading.{first_read, read_long, read_no_number, read_other, read_end, read_nothing, at_err}
+use Rattle.reader.proofs.Reading.{first_read, read_long, read_no_number, read_other, read_end, read_nothing, at_err, one_read}
 use Rattle.reader.proofs.numbers.read_numbers.Goals as goal
 use Rattle.reader.proofs.numbers.read_numbers.Goals.{in_default-b-via-then-b-lt48, in_default-b-via-else-b-lt48+else-b-lt58}
 
@@ -25,4 +25,4 @@ pub returns-in_err-push-clause-bad : goal.returns-in_err-push-clause-bad
 returns-in_err-push-clause-bad c = at_err _ (search rules) (read_nothing c.loop-b.invariant c.loop-b-test.false (search rules))
 
 pub returns-clause-read : goal.returns-clause-read
-returns-clause-read c = search (rules, read_end c.loop-b.invariant)
+returns-clause-read c = (search (rules, read_end c.loop-b.invariant), one_read _ _ _ c.in_ok-push.ensures.ok)
