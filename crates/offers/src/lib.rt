@@ -15,7 +15,7 @@ pub fn declare(month: &mut Month, account: u64, heat: u64) -> Result<u64, Refusa
         return Err(Refusal::OtherKind);
     }
     let k = month.book.account_place(account)?;
-    if heat < 4_300 || 10_000 < heat {
+    if !(4_300..=10_000).contains(&heat) {
         return Err(Refusal::OutsideSet);
     }
     month.book.accounts[k].heat = Some(heat as u16);
@@ -30,7 +30,7 @@ pub fn offer(month: &mut Month, seller: u64, units: u64) -> Result<u64, Refusal>
         return Err(Refusal::MarketShut);
     }
     let k = month.book.account_place(seller)?;
-    if units < 1 || 1_000 < units {
+    if !(1..=1_000).contains(&units) {
         return Err(Refusal::OutsideSet);
     }
     let account = month.book.accounts[k];

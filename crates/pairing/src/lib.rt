@@ -10,8 +10,7 @@ ghost use Rattle.book.specs.Answers.{outcome};
 use book::{Book, Match, Month, Receipt, Refusal, Side};
 
 // "freezes the seller's lowest-numbered free receipts, as many as the units or as there are"; it stops once none is left to freeze.
-fn freeze(lodged: &mut [Receipt], bonded: bool, seller: u64, number: u64, units: u64)
-    requires { number < 256 }
+fn freeze(lodged: &mut [Receipt], bonded: bool, seller: u64, number: u8, units: u16)
     ensures { lodged.new ≡ (iter (length lodged.old) 0 (freeze_turn bonded seller number) (record { receipts = lodged.old; left = units })).receipts }
 {
     let mut left = units;
@@ -29,10 +28,9 @@ fn freeze(lodged: &mut [Receipt], bonded: bool, seller: u64, number: u64, units:
 // "takes the units off both sides; .. In a receipts book it freezes the seller's lowest-numbered free receipts": the next match, due in some days.
 // `bonded_only` goes into one test of a receipt, and parties and units are a call's own: a closure or a struct would be made only to be taken apart here.
 #[tactic(auto, using(crate::proofs::Freezing::first_frozen), unfolding(book::specs::Pairing::pair, book::specs::Pairing::freeze))]
-pub fn pair(book: &mut Book, bonded_only: bool, days: u64, buyer: u64, seller: u64, units: u64)
+pub fn pair(book: &mut Book, bonded_only: bool, days: u64, buyer: u8, seller: u8, units: u16)
     requires buyer_bound { buyer < 32 }
     requires seller_bound { seller < 32 }
-    requires units_bound { units < 65_536 }
     requires price_bound { book.old.price ≤ 1_000_000 }
     requires days_bound { book.old.day + days ≤ 10_000 }
     requires receipt_count_bound { book.old.receipt_count ≤ 256 }
@@ -42,14 +40,16 @@ pub fn pair(book: &mut Book, bonded_only: bool, days: u64, buyer: u64, seller: u
     let number = book.match_count;
     let i = buyer as usize;
     let j = seller as usize;
+    let price = book.price as u32;
+    let due = (book.day + days) as u16;
     let heat = book.accounts[j].heat;
-    book.matches[number] = Match::new(buyer, seller, units, book.price, book.day + days, heat);
+    book.matches[number] = Match::new(buyer, seller, units, price, due, heat);
     book.match_count += 1;
-    book.accounts[i].use_up(units);
-    book.accounts[j].use_up(units);
+    book.accounts[i].use_up(units as u64);
+    book.accounts[j].use_up(units as u64);
     if !book.board {
         let lodged = &mut book.receipts[..book.receipt_count];
-        freeze(lodged, bonded_only, seller, number as u64, units);
+        freeze(lodged, bonded_only, seller as u64, number as u8, units);
     }
 }
 
@@ -67,18 +67,18 @@ pub fn take_offer(month: &mut Month, buyer: u64, seller: u64) -> Result<u64, Ref
     }
     let bought = month.book.accounts[i];
     let sold = month.book.accounts[j];
-    let units = sold.offer.ok_or(Refusal::NoOffer)? as u64;
-    if bought.units_of(Side::Long) < units {
+    let units = sold.offer.ok_or(Refusal::NoOffer)?;
+    if bought.units_of(Side::Long) < units as u64 {
         return Err(Refusal::AboveUnits);
     }
-    if receipts::lacks_receipts(&month.book, seller, units) {
+    if receipts::lacks_receipts(&month.book, seller, units as u64) {
         return Err(Refusal::AboveReceipts);
     }
     let number = month.book.match_count;
     if Book::TAKE_MATCHES <= number {
         return Err(Refusal::TakesFull);
     }
-    pair(&mut month.book, false, 2, buyer, seller, units);
+    pair(&mut month.book, false, 2, buyer as u8, seller as u8, units);
     month.book.accounts[j].offer = None;
     Ok(number as u64)
 }
