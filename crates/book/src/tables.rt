@@ -9,6 +9,7 @@ use crate::receipts::Receipt;
 use crate::refusals::Refusal;
 
 // The book: kind, T, R, the day's price, and the three tables, each an array of fixed length with how many of its rows are in use: "starts as [v; 256]".
+// No invariant bounds the counts: Day, Join and the test of Close are promised of any book, and would ask it. A function that cuts the rows in use asks its count.
 #[derive(Clone, Copy)]
 pub struct Book {
     pub board: bool,
