@@ -29,6 +29,7 @@ pub fn free_receipts(book: &Book, bonded: bool, owner: u64) -> u64
 }
 
 // "receipts book, above the seller's free receipts": whether a receipts book lacks receipts for so many units.
+// All are counted: to stop at the units, the chain of `count_free` would stand here again, with a `take` in it.
 pub fn lacks_receipts(book: &Book, seller: u64, units: u64) -> bool
     requires { book.now.receipt_count ≤ 256 }
     ensures { result ≡ not book.now.board && ltb (free_receipts book.now any_class seller) units }
