@@ -122,7 +122,8 @@ impl Account {
     // "cash up by it"
     pub fn credit(&mut self, amount: Amount)
         requires { nat_abs self.old.cash ≤ 2_000_000_000_000_000_000 }
-        ensures { self.new ≡ credited self.old amount }
+        ensures credited { self.new ≡ credited self.old amount }
+        ensures small { amount ≤ 1_000_000_000_000_000 }
     {
         self.cash += amount.fen as i64;
     }
@@ -130,7 +131,8 @@ impl Account {
     // "cash down by it". It and `credit` are a line each: one of both is no shorter.
     pub fn debit(&mut self, amount: Amount)
         requires { nat_abs self.old.cash ≤ 2_000_000_000_000_000_000 }
-        ensures { self.new ≡ debited self.old amount }
+        ensures debited { self.new ≡ debited self.old amount }
+        ensures small { amount ≤ 1_000_000_000_000_000 }
     {
         self.cash -= amount.fen as i64;
     }
