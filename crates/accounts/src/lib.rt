@@ -1,5 +1,5 @@
 // The opening of a book, and calls 1 to 4 and 11: Join, Deposit, Withdraw, Trade, Day.
-#![tactic(auto, using(reached::specs::Needs::calls), unfolding(book::specs::Opening::opening, book::specs::Opening::next_day, book::specs::Accounts::join, book::specs::Accounts::deposit, book::specs::Accounts::withdraw, book::specs::Accounts::trade, book::specs::Tables::pay, book::specs::Tables::charge))]
+#![tactic(auto, using(reached::specs::Needs::calls, reached::specs::Needs::newest_small), unfolding(book::specs::Opening::opening, book::specs::Opening::next_day, book::specs::Accounts::join, book::specs::Accounts::deposit, book::specs::Accounts::withdraw, book::specs::Accounts::trade, book::specs::Tables::pay, book::specs::Tables::charge))]
 
 ghost use Rattle.std.specs.Prelude.{◌≡◌};
 ghost use Rattle.book.specs.Answers.{outcome};
