@@ -1,21 +1,19 @@
 // Call 18: Auction.
 #![tactic(auto)]
 
-ghost use Rattle.std.specs.Prelude.{◌≡◌, ◌≤◌, ◌<◌};
+ghost use Rattle.std.specs.Prelude.{◌≡◌, ◌<◌};
 ghost use Rattle.book.specs.Answers.{outcome};
 ghost use Rattle.book.specs.Settlement.{sold, unsold, auction};
-ghost use Rattle.payments.specs.Money.{most_paid, Due};
+ghost use Rattle.payments.specs.Money.{Due};
 
-use book::{Book, Match, Month, Refusal, Stage};
-use coal::rounding::percent_down;
+use book::{Amount, Book, Match, Month, Percent, Refusal, Stage};
 use payments::{ValuedMatch, charge, free_again, handed, pay, set_stage};
 
 // "the winner pays the proceeds to the buyer and takes the receipts, the seller gets 80% and the rest is held as before."
 #[tactic(auto, unfolding(book::specs::Settlement::sold, book::specs::Tables::charge))]
-fn sold(book: &mut Book, m: &ValuedMatch, winner: u8, proceeds: u64)
+fn sold(book: &mut Book, m: &ValuedMatch, winner: u8, proceeds: Amount)
     requires due { Due book.old m.now }
     requires winner_bound { winner < 32 }
-    requires proceeds_le_most_paid { proceeds ≤ most_paid }
     ensures { book.new ≡ sold book.old m.now.number m.now.row winner proceeds }
 {
     charge(book, winner, proceeds);
@@ -24,18 +22,18 @@ fn sold(book: &mut Book, m: &ValuedMatch, winner: u8, proceeds: u64)
 }
 
 // "the buyer gets V back, pays the seller 20% of V, down, the match is ended and the receipts are freed"
-#[tactic(auto, using(coal::proofs::laws::Bounds::percent_down_most), unfolding(book::specs::Settlement::unsold, book::specs::Settlement::free_again, book::specs::Tables::pay, book::specs::Tables::charge))]
+#[tactic(auto, unfolding(book::specs::Settlement::unsold, book::specs::Settlement::free_again, book::specs::Tables::pay, book::specs::Tables::charge))]
 fn unsold(book: &mut Book, m: &ValuedMatch)
     requires { Due book.old m.now }
     ensures { book.new ≡ unsold book.old m.now.number m.now.row m.now.value }
 {
     let Match { buyer, seller, .. } = m.row;
-    let part = percent_down(20, m.value);
+    let part = m.value.percent_down(Percent { value: 20 });
     pay(book, buyer, m.value);
     charge(book, buyer, part);
     pay(book, seller, part);
     set_stage(book, m.number, 0, Stage::Ended);
-    free_again(book, m.number);
+    free_again(book, m.number as u64);
 }
 
 // "Call 18 names match, winner and proceeds." "Proceeds of zero mean nobody bid": an Option in place of the 0 would be made here and taken apart here.
@@ -44,24 +42,22 @@ pub fn auction(month: &mut Month, number: u64, winner: u64, proceeds: u64) -> Re
     ensures { outcome result month.new ≡ auction month.old number winner proceeds }
 {
     let taker = month.book.account_place(winner)?;
-    if 1_000_000_000_000_000 < proceeds {
-        return Err(Refusal::OutsideSet);
-    }
+    let proceeds = Amount::try_from(proceeds)?;
     month.book.match_place(number)?;
     let m = ValuedMatch::of(&month.book, number);
     if m.row.stage != Stage::Awaiting {
         return Err(Refusal::WrongStage);
     }
-    if 0 < proceeds && month.book.accounts[taker].overseas {
+    if proceeds.fen == 0 {
+        unsold(&mut month.book, &m);
+        return Ok(0);
+    }
+    if month.book.accounts[taker].overseas {
         return Err(Refusal::OverseasWinner);
     }
-    if 0 < proceeds && month.book.accounts[taker].has_below(proceeds) {
+    if month.book.accounts[taker].has_below(proceeds.fen) {
         return Err(Refusal::AboveWinnersCash);
     }
-    if proceeds == 0 {
-        unsold(&mut month.book, &m);
-    } else {
-        sold(&mut month.book, &m, taker as u8, proceeds);
-    }
+    sold(&mut month.book, &m, taker as u8, proceeds);
     Ok(0)
 }

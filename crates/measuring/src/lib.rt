@@ -1,68 +1,51 @@
 // Calls 14 and 16, of a board book: Measure, Terminate.
 #![tactic(auto)]
 
-ghost use Rattle.std.specs.Prelude.{◌≡◌, ◌||◌, ◌≤◌, ◌*◌, ltb};
-ghost use Rattle.coal.specs.Coal.{coal_price, coal_weight, amount};
-ghost use Rattle.coal.specs.Ranges.{most_weight};
-ghost use Rattle.book.specs.Rows.{heat_value};
+ghost use Rattle.std.specs.Prelude.{◌≡◌, ◌||◌, ltb};
 ghost use Rattle.book.specs.Answers.{outcome};
-ghost use Rattle.book.specs.Settlement.{measured, measure, terminated, terminate};
-ghost use Rattle.payments.specs.Money.{most_paid, Due};
+ghost use Rattle.book.specs.Settlement.{cargo, amount_due, measured, measure, terminated, terminate};
+ghost use Rattle.payments.specs.Money.{Due};
 ghost use Rattle.measuring.specs.Party.{party_number};
 
-use book::{Book, Match, Month, Refusal, Stage};
-use coal::rounding::percent_down;
-use coal::{Quality, Sample, Weighed};
+use book::{Amount, Book, Match, Month, Percent, Refusal, Stage};
+use coal::Sample;
 use payments::{ValuedMatch, charge, pay, punish, set_stage};
 
 // ---- Measure
 
-// The weight rule for the cargo of a match: "D = units × T × 1,000 kg".
-#[tactic(auto, using(coal::proofs::laws::Bounds::coal_weight_most))]
-fn cargo(m: &Match, tonnes: u64, sample: &Sample) -> Weighed
-    requires units_bound { m.now.units ≤ 1_000 }
-    requires tonnes_bound { tonnes ≤ 20_000 }
-    ensures value { result ≡ coal_weight (m.now.units * tonnes * 1_000) sample.now.weight sample.now.moisture }
-    ensures settled_le_most_weight { result.settled ≤ most_weight }
+// "works out amount B" and beside it the kilograms over: of P the match's price, H its declared heat, the settled weight of its cargo, "D = units × T × 1,000 kg", and the measured quality.
+#[tactic(auto, using(coal::proofs::laws::Bounds::coal_weight_most, coal::proofs::laws::Bounds::coal_price_most), unfolding(book::specs::Settlement::amount_due))]
+fn amount_due(book: &Book, m: &ValuedMatch, sample: &Sample) -> (Amount, u64)
+    requires { Due book.now m.now }
+    ensures due { result.0 ≡ amount_due book.now m.now.row sample.now.weight sample.now.quality.heat sample.now.moisture sample.now.quality.sulphur sample.now.quality.volatiles sample.now.quality.ash }
+    ensures over { result.1 ≡ (cargo book.now m.now.row sample.now.weight sample.now.moisture).over }
 {
-    coal::weight(
-        m.units as u64 * tonnes * 1_000,
-        sample.weight,
-        sample.moisture,
-    )
-}
-
-// "works out amount B": of P the match's price, H its declared heat, the settled weight, and the measured quality.
-#[tactic(auto, using(coal::proofs::laws::Bounds::coal_price_most, coal::proofs::laws::Bounds::amount_most))]
-fn amount_due(m: &Match, weight: u64, quality: &Quality) -> u64
-    requires price_bound { m.now.price ≤ 1_000_000 }
-    requires heat_bound { heat_value m.now.heat ≤ 10_000 }
-    requires weight_le_most_weight { weight ≤ most_weight }
-    ensures value { result ≡ amount (coal_price m.now.price (heat_value m.now.heat) quality.now.heat quality.now.sulphur quality.now.volatiles quality.now.ash) weight }
-    ensures upper_bound { result ≤ most_paid }
-{
-    let heat = m.heat.unwrap_or(0);
-    let price = coal::price(m.price as u64, heat as u64, quality);
-    coal::amount(price, weight)
+    let cargo = m.row.units as u64 * book.tonnes * 1_000;
+    let loaded = coal::weight(cargo, sample.weight, sample.moisture);
+    let heat = m.row.heat.unwrap_or(0);
+    let price = coal::price(m.row.price as u64, heat as u64, &sample.quality);
+    let amount = Amount {
+        fen: coal::amount(price, loaded.settled),
+    };
+    (amount, loaded.over)
 }
 
 // "buyer gets V back and pays B; seller gets 80% of B, down; the rest is held; stage held."
-#[tactic(auto, using(coal::proofs::laws::Bounds::percent_down_most), unfolding(book::specs::Settlement::measured, book::specs::Tables::pay))]
-fn measured(book: &mut Book, m: &ValuedMatch, amount: u64)
-    requires due { Due book.old m.now }
-    requires amount_le_most_paid { amount ≤ most_paid }
+#[tactic(auto, unfolding(book::specs::Settlement::measured, book::specs::Tables::pay))]
+fn measured(book: &mut Book, m: &ValuedMatch, amount: Amount)
+    requires { Due book.old m.now }
     ensures { book.new ≡ measured book.old m.now.number m.now.row amount }
 {
     let Match { buyer, seller, .. } = m.row;
-    let first = percent_down(80, amount);
+    let first = amount.percent_down(Percent { value: 80 });
     pay(book, buyer, m.value);
     charge(book, buyer, amount);
     pay(book, seller, first);
-    set_stage(book, m.number, amount - first, Stage::Held);
+    set_stage(book, m.number, amount.fen - first.fen, Stage::Held);
 }
 
 // "14 Measure match, W, Q, M, S, F, A." "W kg 0..40,000,000,000"; "these five 0..10,000"; "Measure (prepaid)". It carries the kilograms over.
-#[tactic(auto, using(reached::specs::Needs::calls, crate::proofs::Heat::heat_small), unfolding(book::specs::Settlement::measure, book::specs::Settlement::amount_due))]
+#[tactic(auto, using(reached::specs::Needs::calls), unfolding(book::specs::Settlement::measure))]
 pub fn measure(month: &mut Month, number: u64, sample: &Sample) -> Result<u64, Refusal>
     ensures { outcome result month.new ≡ measure month.old number sample.now.weight sample.now.quality.heat sample.now.moisture sample.now.quality.sulphur sample.now.quality.volatiles sample.now.quality.ash }
 {
@@ -83,10 +66,9 @@ pub fn measure(month: &mut Month, number: u64, sample: &Sample) -> Result<u64, R
     {
         return Err(Refusal::MeasuredOutOfRange);
     }
-    let loaded = cargo(&m.row, month.book.tonnes, sample);
-    let amount = amount_due(&m.row, loaded.settled, &sample.quality);
+    let (amount, over) = amount_due(&month.book, &m, sample);
     measured(&mut month.book, &m, amount);
-    Ok(loaded.over)
+    Ok(over)
 }
 
 // ---- Terminate
@@ -122,8 +104,9 @@ fn terminated(book: &mut Book, m: &ValuedMatch, party: Party)
     requires { Due book.old m.now }
     ensures { book.new ≡ terminated book.old m.now.number m.now.row (party_number party) }
 {
-    let x = (party != Party::Seller).then_some(book.rate);
-    let y = (party != Party::Buyer).then_some(book.rate);
+    let rate = Percent { value: book.rate };
+    let x = (party != Party::Seller).then_some(rate);
+    let y = (party != Party::Buyer).then_some(rate);
     pay(book, m.row.buyer, m.value);
     punish(book, m, x, y);
     set_stage(book, m.number, 0, Stage::Ended);

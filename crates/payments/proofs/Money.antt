@@ -2,13 +2,11 @@
 use Rattle.std.specs.Prelude.{◌≡◌, refl, ℕ, suc, ◌+◌, ◌*◌, ◌≤◌, ◌<◌, pos, neg_ℤ, nat_abs, Option, Some, None}
 use Rattle.std.proofs.Common.{arith, mul-le-mul, add_assoc, Fits}
 use Rattle.std.specs.Int.{w64}
-use Rattle.coal.specs.Coal.{percent_down}
-use Rattle.coal.proofs.laws.Bounds.{percent_down_most}
 use Rattle.whole.specs.Whole.{natAbs_sum, natAbs_neg}
 use Rattle.book.specs.declared.accounts.Account.{Account}
 use Rattle.book.specs.declared.tables.Book.{Book}
-use Rattle.book.specs.Rows.{blank_account}
-use Rattle.book.specs.Tables.{account_at, put_account, with_fund, pay, charge}
+use Rattle.book.specs.Rows.{blank_account, heat_value}
+use Rattle.book.specs.Tables.{account_at, match_at, put_account, with_fund, pay, charge}
 use Rattle.book.specs.Settlement.{value}
 use Rattle.book.specs.Lists.{Reached}
 use Rattle.book.proofs.laws.Counting.{at_set}
@@ -16,7 +14,7 @@ use Rattle.book.proofs.laws.Sound.{Sound}
 use Rattle.book.proofs.laws.Reaching.{sound}
 use Rattle.reached.specs.Needs.{calls}
 use Rattle.payments.specs.declared.valued.ValuedMatch.{ValuedMatch}
-use Rattle.payments.specs.Money.{most_paid, most_cash, percent_of, Room, fined, valued, Deal, Due, Handing}
+use Rattle.payments.specs.Money.{most_paid, most_cash, Room, fined, valued, Due, Handing}
 
 -- ---- amounts, in fen
 
@@ -38,17 +36,6 @@ module _ (u : ℕ) (h : u ≤ 1_000) where
 
       pub value_small : u * p * t ≤ most_paid
       value_small = omega (arith, value_most)
-
--- a percent of an amount
-module _ (x n r : ℕ) (e : r ≡ percent_down x n) (h : x ≤ 100) where
-  pub part_most : r ≤ n
-  part_most = rw e (percent_down_most x n h)
-
-  pub part_small : n ≤ most_paid → r ≤ most_paid
-  part_small k = omega (arith, part_most)
-
-pub percent_small : (x : Option ℕ) (p : ℕ) → x ≡ Some p → percent_of x ≤ 100 → p ≤ 100
-percent_small x p e h = rw e at h
 
 -- ---- room for payments
 
@@ -85,29 +72,24 @@ both_fined b k i x y = rw (add_assoc b.fund x y)
 
 -- ---- a match and what it is worth
 
--- a payment changes nothing of that
-pub deal_paid : (b f : Book) (k x : ℕ) (m : ValuedMatch) → f ≡ pay b k x → Deal b m → Deal f m
-unfolding value pay
-deal_paid b f k x m e d = rw e (record { buyer_there = d.buyer_there; seller_there = d.seller_there; worth = d.worth; small = d.small })
-
 module _ (b : Book) (m : ValuedMatch) (d : Due b m) where
-  pub handing_due : (k : ℕ) → k < 32 → Handing b m k
-  handing_due k t =
-      record { number_there = d.number_there; receipts_few = d.receipts_few; seller_there = d.deal.seller_there; taker_there = t; small = d.deal.small; room = room_less 1 8 b d.room (omega arith) }
+  pub handing_due : Handing b m
+  handing_due = record { receipts_few = d.receipts_few; seller_there = d.deal.seller_there; room = room_less 1 8 b d.room (omega arith) }
 
   -- after account i paid x to the buyer
-  pub handing_sold : (c f : Book) (i k x : ℕ) → c ≡ charge b i x → f ≡ pay c m.row.buyer x → x ≤ most_paid → k < 32 → Handing f m k
+  pub handing_sold : (c f : Book) (i x : ℕ) → c ≡ charge b i x → f ≡ pay c m.row.buyer x → x ≤ most_paid → Handing f m
   unfolding pay charge
-  handing_sold c f i k x e g h t = record {
-    number_there = d.number_there;
+  handing_sold c f i x e g h = record {
     receipts_few = rw (g, e) d.receipts_few;
     seller_there = d.deal.seller_there;
-    taker_there = t;
-    small = d.deal.small;
     room = room_paid 1 c f m.row.buyer x g h (room_charged 2 b c i x e h (room_less 3 8 b d.room (omega arith)));
   }
 
 -- ---- a reached book
+
+heat_most : (t : Option ℕ) → ((x : ℕ) → t ≡ Some x → x ≤ 10_000) → heat_value t ≤ 10_000
+heat_most None g = omega arith
+heat_most (Some x) g = g x refl
 
 module _ (b : Book) (r : Reached b) where
   s : Sound b
@@ -116,9 +98,17 @@ module _ (b : Book) (r : Reached b) where
   pub room_sound : (n : ℕ) → n ≤ 8 → Room n b
   room_sound n h = record { cash = λ k. omega (arith, s.cash_few k); fund = omega (arith, s.fund_few) }
 
-  pub due_sound : (j : ℕ) → j < b.match_count → value b (valued b j).row ≤ most_paid → Due b (valued b j)
+  pub due_sound : (j : ℕ) → j < b.match_count → Due b (valued b j)
   unfolding value
-  due_sound j h l =
-      record { number_there = search calls; receipts_few = search calls; rate_few = search calls; deal = record { buyer_there = search calls; seller_there = search calls; worth = refl; small = l }; room = room_sound 8 (omega arith) }
+  due_sound j h = record {
+    receipts_few = search calls;
+    rate_few = search calls;
+    tonnes_few = search calls;
+    units_few = search calls;
+    price_few = search calls;
+    heat_few = heat_most (match_at b j).heat (s.tables.core.matches.rows j h).heat_high;
+    deal = record { buyer_there = search calls; seller_there = search calls; worth = refl };
+    room = room_sound 8 (omega arith);
+  }
 
-pub ruleset money = (price_fits, value_fits, value_small, part_most, part_small, percent_small, room_cash, room_less, room_paid, room_charged, room_fined, deal_paid, room_sound, due_sound, handing_due)
+pub ruleset money = (room_less, room_paid, room_charged, room_fined)

@@ -1,6 +1,7 @@
 -- What the money of a match asks for: bounds of what is paid, room for it in every account's cash and in the fund, and what is known of a match that is settled. Assumes nothing.
 use Rattle.std.specs.Prelude.{◌≡◌, ℕ, ◌+◌, ◌*◌, ◌≤◌, ◌<◌, nat_abs, Option, Some, None}
 use Rattle.book.specs.declared.tables.Book.{Book}
+use Rattle.book.specs.Rows.{heat_value}
 use Rattle.book.specs.Tables.{account_at, match_at, with_fund, pay, charge}
 use Rattle.book.specs.Settlement.{value}
 use Rattle.payments.specs.declared.valued.ValuedMatch.{ValuedMatch}
@@ -14,11 +15,6 @@ most_paid = 1_000_000_000_000_000
 -- the cash, either way, to which that much can be added
 abbrev pub most_cash : ℕ
 most_cash = 2_000_000_000_000_000_000
-
--- the percent of a fault, 0 where there is none
-abbrev pub percent_of : Option ℕ → ℕ
-percent_of None = 0
-percent_of (Some p) = p
 
 -- ---- room for payments
 
@@ -43,21 +39,20 @@ pub record Deal (b : Book) (m : ValuedMatch) : Type 0 where
   pub buyer_there : m.row.buyer < 32
   pub seller_there : m.row.seller < 32
   pub worth : m.value ≡ value b m.row
-  pub small : m.value ≤ most_paid
 
 -- what settling a match of a book asks for
 pub record Due (b : Book) (m : ValuedMatch) : Type 0 where
-  pub number_there : m.number < 256
   pub receipts_few : b.receipt_count ≤ 256
   pub rate_few : b.rate ≤ 100
+  pub tonnes_few : b.tonnes ≤ 20_000
+  pub units_few : m.row.units ≤ 1_000
+  pub price_few : m.row.price ≤ 1_000_000
+  pub heat_few : heat_value m.row.heat ≤ 10_000
   pub deal : Deal b m
   pub room : Room 8 b
 
--- what handing over a match of a book asks for, k being who takes the receipts
-pub record Handing (b : Book) (m : ValuedMatch) (k : ℕ) : Type 0 where
-  pub number_there : m.number < 256
+-- what handing over a match of a book asks for
+pub record Handing (b : Book) (m : ValuedMatch) : Type 0 where
   pub receipts_few : b.receipt_count ≤ 256
   pub seller_there : m.row.seller < 32
-  pub taker_there : k < 32
-  pub small : m.value ≤ most_paid
   pub room : Room 1 b

@@ -4,13 +4,14 @@ ghost use Rattle.book.specs.Lists.{Reached};
 ghost use Rattle.payments.specs.Money.{valued, Due};
 
 use crate::value;
-use book::{Book, Match};
+use book::{Amount, Book, Match};
 
+// What is known of it is `Due`, and no invariant of the struct: `Due` speaks of the book beside the match.
 #[derive(Clone, Copy)]
 pub struct ValuedMatch {
-    pub number: u64,
+    pub number: u8,
     pub row: Match,
-    pub value: u64,
+    pub value: Amount,
 }
 
 impl ValuedMatch {
@@ -24,7 +25,7 @@ impl ValuedMatch {
     {
         let row = book.matches[number as usize];
         ValuedMatch {
-            number,
+            number: number as u8,
             row,
             value: value(&row, book.tonnes),
         }

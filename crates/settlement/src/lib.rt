@@ -8,9 +8,9 @@ ghost use Rattle.book.specs.Answers.{outcome};
 ghost use Rattle.book.specs.Rows.{heat_missing, is_frozen_for, is_ordinary_for};
 ghost use Rattle.book.specs.Tables.{frozen_receipts};
 ghost use Rattle.book.specs.Settlement.{buyer_fault, seller_fault, into_held, to_auction, paid_stage, fault_ended, paid, pay_match, invoice, hand_over};
-ghost use Rattle.payments.specs.Money.{percent_of, valued, Due};
+ghost use Rattle.payments.specs.Money.{valued, Due};
 
-use book::{Book, Month, Receipt, Refusal, Stage};
+use book::{Amount, Book, Month, Percent, Receipt, Refusal, Stage, in_use};
 use payments::{ValuedMatch, charge, fault, free_again, handed, pay, punish, set_stage};
 
 // ---- Pay
@@ -34,22 +34,14 @@ fn any_ordinary(lodged: &[Receipt], number: u64) -> bool
 
 // "Buyer's fault: unfit (10%), else cash below V (R%)."
 #[tactic(auto, unfolding(book::specs::Settlement::buyer_fault, book::specs::Settlement::value))]
-fn buyer_fault(book: &Book, m: &ValuedMatch) -> Option<u64>
+fn buyer_fault(book: &Book, m: &ValuedMatch) -> Option<Percent>
     requires due { Due book.now m.now }
     requires m_value { m.now ≡ valued book.now m.now.number }
-    ensures value { result ≡ buyer_fault book.now m.now.number }
-    ensures result_bound { percent_of result ≤ 100 }
+    ensures { result ≡ buyer_fault book.now m.now.number }
 {
     let buyer = &book.accounts[m.row.buyer as usize];
-    fault(buyer.fit, buyer.has_below(m.value), book.rate)
-}
-
-// How many receipts are frozen for a match.
-fn frozen_receipts(book: &Book, number: u64) -> u64
-    requires { book.now.receipt_count ≤ 256 }
-    ensures { result ≡ frozen_receipts book.now number }
-{
-    count_frozen(&book.receipts[..book.receipt_count], number) as u64
+    let rate = Percent { value: book.rate };
+    fault(buyer.fit, buyer.has_below(m.value.fen), rate)
 }
 
 // "receipts book with fewer frozen than units, or board book with heat missing": whether the seller lacks what it is to deliver.
@@ -60,20 +52,21 @@ fn seller_lacks(book: &Book, m: &ValuedMatch) -> bool
     if book.board {
         m.row.heat.is_none()
     } else {
-        frozen_receipts(book, m.number) < m.row.units as u64
+        let lodged = in_use(&book.receipts, book.receipt_count);
+        count_frozen(lodged, m.number as u64) < m.row.units as usize
     }
 }
 
 // "Seller's fault: unfit (10%), else receipts book with fewer frozen than units, or board book with heat missing (R%)."
 #[tactic(auto, unfolding(book::specs::Settlement::seller_fault))]
-fn seller_fault(book: &Book, m: &ValuedMatch) -> Option<u64>
+fn seller_fault(book: &Book, m: &ValuedMatch) -> Option<Percent>
     requires due { Due book.now m.now }
     requires m_value { m.now ≡ valued book.now m.now.number }
-    ensures value { result ≡ seller_fault book.now m.now.number }
-    ensures result_bound { percent_of result ≤ 100 }
+    ensures { result ≡ seller_fault book.now m.now.number }
 {
     let seller = &book.accounts[m.row.seller as usize];
-    fault(seller.fit, seller_lacks(book, m), book.rate)
+    let rate = Percent { value: book.rate };
+    fault(seller.fit, seller_lacks(book, m), rate)
 }
 
 // "a match of an overseas buyer with any ordinary receipt": by the buyer's residence and the receipts frozen for the match.
@@ -83,7 +76,8 @@ fn to_auction(book: &Book, m: &ValuedMatch) -> bool
     ensures { result ≡ to_auction book.now m.now.number m.now.row }
 {
     let buyer = &book.accounts[m.row.buyer as usize];
-    buyer.overseas && any_ordinary(&book.receipts[..book.receipt_count], m.number)
+    let lodged = in_use(&book.receipts, book.receipt_count);
+    buyer.overseas && any_ordinary(lodged, m.number as u64)
 }
 
 // "In a receipts book it gives the new stage 5, funded", or "stage 6, awaiting auction". "A board match goes from Pay to prepaid."
@@ -102,34 +96,30 @@ fn paid_stage(book: &Book, m: &ValuedMatch) -> Stage
 }
 
 // "moves V into money held": the buyer pays V, and V is held, at a stage.
-#[tactic(auto, using(payments::proofs::Money::money), unfolding(book::specs::Settlement::into_held))]
+#[tactic(auto, unfolding(book::specs::Settlement::into_held))]
 fn into_held(book: &mut Book, m: &ValuedMatch, stage: Stage)
     requires { Due book.old m.now }
     ensures { book.new ≡ into_held book.old m.now.number m.now.row m.now.value stage }
 {
     charge(book, m.row.buyer, m.value);
-    set_stage(book, m.number, m.value, stage);
+    set_stage(book, m.number, m.value.fen, stage);
 }
 
 // "ends the match on a fault": "Then the match is ended and its receipts are free again."
-#[tactic(auto, using(payments::proofs::Money::money, crate::proofs::Faults::punished_count), unfolding(book::specs::Settlement::fault_ended))]
-fn fault_ended(book: &mut Book, m: &ValuedMatch, x: Option<u64>, y: Option<u64>)
-    requires due { Due book.old m.now }
-    requires x_bound { percent_of x ≤ 100 }
-    requires y_bound { percent_of y ≤ 100 }
+#[tactic(auto, using(crate::proofs::Faults::punished_count), unfolding(book::specs::Settlement::fault_ended))]
+fn fault_ended(book: &mut Book, m: &ValuedMatch, x: Option<Percent>, y: Option<Percent>)
+    requires { Due book.old m.now }
     ensures { book.new ≡ fault_ended book.old m.now.number m.now.row x y }
 {
     punish(book, m, x, y);
     set_stage(book, m.number, 0, Stage::Ended);
-    free_again(book, m.number);
+    free_again(book, m.number as u64);
 }
 
 // By the buyer's fault, x, and the seller's, y; without one the match may go to auction.
-#[tactic(auto, using(payments::proofs::Money::money), unfolding(book::specs::Settlement::paid))]
-fn paid(book: &mut Book, m: &ValuedMatch, x: Option<u64>, y: Option<u64>)
-    requires due { Due book.old m.now }
-    requires x_bound { percent_of x ≤ 100 }
-    requires y_bound { percent_of y ≤ 100 }
+#[tactic(auto, unfolding(book::specs::Settlement::paid))]
+fn paid(book: &mut Book, m: &ValuedMatch, x: Option<Percent>, y: Option<Percent>)
+    requires { Due book.old m.now }
     ensures { book.new ≡ paid book.old m.now.number m.now.row x y }
 {
     match (x, y) {
@@ -188,7 +178,7 @@ pub fn invoice(month: &mut Month, number: u64) -> Result<u64, Refusal>
     if m.stage != Stage::Held {
         return Err(Refusal::WrongStage);
     }
-    pay(&mut month.book, m.seller, m.held);
-    set_stage(&mut month.book, number, 0, Stage::Closed);
+    pay(&mut month.book, m.seller, Amount { fen: m.held });
+    set_stage(&mut month.book, j as u8, 0, Stage::Closed);
     Ok(0)
 }

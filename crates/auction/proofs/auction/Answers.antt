@@ -8,6 +8,6 @@ pub invariant_of-month : goal.invariant_of-month
 unfolding step auction auctioned
 invariant_of-month c = kept 0 (Call.Auction c.args.number c.args.winner c.args.proceeds) c.month.invariant (search calls)
 
-pub invariant_of-month-else-proceeds-eq0 : goal.invariant_of-month-else-proceeds-eq0
+pub invariant_of-month-2 : goal.invariant_of-month-2
 unfolding step auction auctioned
-invariant_of-month-else-proceeds-eq0 c = kept 0 (Call.Auction c.args.number c.args.winner c.args.proceeds) c.month.invariant (search calls)
+invariant_of-month-2 c = kept 0 (Call.Auction c.args.number c.args.winner c.args.proceeds) c.month.invariant (search calls)
