@@ -1,7 +1,7 @@
 // Calls 14 and 16, of a board book: Measure, Terminate.
 #![tactic(auto)]
 
-ghost use Rattle.std.specs.Prelude.{◌≡◌, ◌||◌, ltb};
+ghost use Rattle.std.specs.Prelude.{◌≡◌};
 ghost use Rattle.book.specs.Answers.{outcome};
 ghost use Rattle.book.specs.Settlement.{cargo, amount_due, measured, measure, terminated, terminate};
 ghost use Rattle.payments.specs.Money.{Due};
@@ -17,7 +17,7 @@ use payments::{ValuedMatch, charge, pay, punish, set_stage};
 #[tactic(auto, using(coal::proofs::laws::Bounds::coal_weight_most, coal::proofs::laws::Bounds::coal_price_most), unfolding(book::specs::Settlement::amount_due))]
 fn amount_due(book: &Book, m: &ValuedMatch, sample: &Sample) -> (Amount, u64)
     requires { Due book.now m.now }
-    ensures due { result.0 ≡ amount_due book.now m.now.row sample.now.weight sample.now.quality.heat sample.now.moisture sample.now.quality.sulphur sample.now.quality.volatiles sample.now.quality.ash }
+    ensures amount { result.0 ≡ amount_due book.now m.now.row sample.now.weight sample.now.quality.heat sample.now.moisture sample.now.quality.sulphur sample.now.quality.volatiles sample.now.quality.ash }
     ensures over { result.1 ≡ (cargo book.now m.now.row sample.now.weight sample.now.moisture).over }
 {
     let cargo = m.row.units as u64 * book.tonnes * 1_000;

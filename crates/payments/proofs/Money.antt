@@ -87,6 +87,7 @@ module _ (b : Book) (m : ValuedMatch) (d : Due b m) where
 
 -- ---- a reached book
 
+-- the declared heat, or 0 where it is missing
 heat_most : (t : Option ℕ) → ((x : ℕ) → t ≡ Some x → x ≤ 10_000) → heat_value t ≤ 10_000
 heat_most None g = omega arith
 heat_most (Some x) g = g x refl

@@ -28,7 +28,7 @@ pub fn value(m: &Match, tonnes: u64) -> Amount
     }
 }
 
-// An amount is paid to an account; `Room n` says how many payments are to come, another number at each call. It and `charge` are a line each: one function of both is no shorter.
+// An amount is paid to an account; `Room n` says how many payments are to come, another number at each call. An account's number is a row's u8: a type of those below 32 would be made at each call and unwrapped here. It and `charge` are a line each: one function of both is no shorter.
 #[tactic(auto, using(crate::proofs::Money::room_cash), unfolding(book::specs::Tables::pay))]
 pub fn pay(book: &mut Book, account: u8, amount: Amount)
     requires account_bound { account < 32 }
@@ -118,7 +118,7 @@ fn fined(book: &mut Book, payer: u8, payee: Option<u8>, amount: Amount)
     }
 }
 
-// "A penalty is that percent of V, down": x is the buyer's fault, y the seller's.
+// "A penalty is that percent of V, down": x is the buyer's fault, y the seller's; a struct of the two would be made at each call, only to be taken apart here.
 #[tactic(auto, using(crate::proofs::Money::both_fined), unfolding(book::specs::Settlement::punish, book::specs::Settlement::penalty, crate::specs::Money::fined))]
 pub fn punish(book: &mut Book, m: &ValuedMatch, x: Option<Percent>, y: Option<Percent>)
     requires deal { Deal book.old m.now }

@@ -1,7 +1,7 @@
 // Calls 13, 15 and 17: Pay, Invoice, Hand over.
 #![tactic(auto)]
 
-ghost use Rattle.std.specs.Prelude.{◌≡◌, ◌≤◌, ltb, length, filter};
+ghost use Rattle.std.specs.Prelude.{◌≡◌, ltb, length, filter};
 ghost use Rattle.std.specs.List.{list_any};
 ghost use Rattle.coal.specs.Choice.{pick};
 ghost use Rattle.book.specs.Answers.{outcome};
