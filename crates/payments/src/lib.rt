@@ -28,7 +28,8 @@ pub fn value(m: &Match, tonnes: u64) -> Amount
     }
 }
 
-// An amount is paid to an account; `Room n` says how many payments are to come, another number at each call. An account's number is a row's u8: a type of those below 32 would be made at each call and unwrapped here. It and `charge` are a line each: one function of both is no shorter.
+// An amount is paid to an account; `Room n` says how many payments are to come, another number at each call, and `small` what is true of every amount, to callers that read no field of it.
+// An account's number is a row's u8: a type of those below 32 would be made at each call and unwrapped here. It and `charge` are a line each: one function of both is no shorter.
 #[tactic(auto, using(crate::proofs::Money::room_cash), unfolding(book::specs::Tables::pay))]
 pub fn pay(book: &mut Book, account: u8, amount: Amount)
     requires account_bound { account < 32 }
@@ -36,8 +37,6 @@ pub fn pay(book: &mut Book, account: u8, amount: Amount)
     ensures paid { book.new ≡ pay book.old account amount }
     ensures small { amount ≤ most_paid }
 {
-    // That an amount is small is known where its field is read; `small` tells it to callers.
-    let _ = &amount.fen;
     book.accounts[account as usize].credit(amount);
 }
 
@@ -49,8 +48,6 @@ pub fn charge(book: &mut Book, account: u8, amount: Amount)
     ensures charged { book.new ≡ charge book.old account amount }
     ensures small { amount ≤ most_paid }
 {
-    // As in `pay`.
-    let _ = &amount.fen;
     book.accounts[account as usize].debit(amount);
 }
 
