@@ -9,7 +9,7 @@ ghost use Rattle.measuring.specs.Party.{party_number};
 
 use book::{Amount, Book, Match, Month, Percent, Refusal, Stage};
 use coal::Sample;
-use payments::{ValuedMatch, charge, pay, punish, set_stage};
+use payments::{Faults, ValuedMatch, charge, pay, punish, set_stage};
 
 // ---- Measure
 
@@ -105,10 +105,12 @@ fn terminated(book: &mut Book, m: &ValuedMatch, party: Party)
     ensures { book.new ≡ terminated book.old m.now.number m.now.row (party_number party) }
 {
     let rate = Percent { value: book.rate };
-    let x = (party != Party::Seller).then_some(rate);
-    let y = (party != Party::Buyer).then_some(rate);
+    let faults = Faults {
+        buyer: (party != Party::Seller).then_some(rate),
+        seller: (party != Party::Buyer).then_some(rate),
+    };
     pay(book, m.row.buyer, m.value);
-    punish(book, m, x, y);
+    punish(book, m, faults);
     set_stage(book, m.number, 0, Stage::Ended);
 }
 

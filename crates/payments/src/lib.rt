@@ -115,16 +115,23 @@ fn fined(book: &mut Book, payer: u8, payee: Option<u8>, amount: Amount)
     }
 }
 
-// "A penalty is that percent of V, down": x is the buyer's fault, y the seller's; a struct of the two would be made at each call, only to be taken apart here.
+// Who is at fault, and by what percent of V.
+#[derive(Clone, Copy)]
+pub struct Faults {
+    pub buyer: Option<Percent>,
+    pub seller: Option<Percent>,
+}
+
+// "A penalty is that percent of V, down."
 #[tactic(auto, using(crate::proofs::Money::both_fined), unfolding(book::specs::Settlement::punish, book::specs::Settlement::penalty, crate::specs::Money::fined))]
-pub fn punish(book: &mut Book, m: &ValuedMatch, x: Option<Percent>, y: Option<Percent>)
+pub fn punish(book: &mut Book, m: &ValuedMatch, faults: Faults)
     requires deal { Deal book.old m.now }
     requires room { Room 4 book.old }
-    ensures { book.new ≡ punish book.old m.now.row x y }
+    ensures { book.new ≡ punish book.old m.now.row faults.buyer faults.seller }
 {
     let buyer = m.row.buyer;
     let seller = m.row.seller;
-    match (x, y) {
+    match (faults.buyer, faults.seller) {
         (None, None) => {}
         (Some(p), None) => fined(book, buyer, Some(seller), m.value.percent_down(p)),
         (None, Some(q)) => fined(book, seller, Some(buyer), m.value.percent_down(q)),

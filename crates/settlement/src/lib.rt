@@ -11,7 +11,7 @@ ghost use Rattle.book.specs.Settlement.{buyer_fault, seller_fault, into_held, to
 ghost use Rattle.payments.specs.Money.{valued, Due};
 
 use book::{Amount, Book, Month, Percent, Receipt, Refusal, Stage, in_use};
-use payments::{ValuedMatch, charge, fault, free_again, handed, pay, punish, set_stage};
+use payments::{Faults, ValuedMatch, charge, fault, free_again, handed, pay, punish, set_stage};
 
 // ---- Pay
 
@@ -107,27 +107,27 @@ fn into_held(book: &mut Book, m: &ValuedMatch, stage: Stage)
 
 // "ends the match on a fault": "Then the match is ended and its receipts are free again."
 #[tactic(auto, using(crate::proofs::Faults::punished_count), unfolding(book::specs::Settlement::fault_ended))]
-fn fault_ended(book: &mut Book, m: &ValuedMatch, x: Option<Percent>, y: Option<Percent>)
+fn fault_ended(book: &mut Book, m: &ValuedMatch, faults: Faults)
     requires { Due book.old m.now }
-    ensures { book.new ≡ fault_ended book.old m.now.number m.now.row x y }
+    ensures { book.new ≡ fault_ended book.old m.now.number m.now.row faults.buyer faults.seller }
 {
-    punish(book, m, x, y);
+    punish(book, m, faults);
     set_stage(book, m.number, 0, Stage::Ended);
     free_again(book, m.number as u64);
 }
 
-// By the buyer's fault, x, and the seller's, y; without one the match may go to auction.
+// By the parties' faults; without one the match may go to auction.
 #[tactic(auto, unfolding(book::specs::Settlement::paid))]
-fn paid(book: &mut Book, m: &ValuedMatch, x: Option<Percent>, y: Option<Percent>)
+fn paid(book: &mut Book, m: &ValuedMatch, faults: Faults)
     requires { Due book.old m.now }
-    ensures { book.new ≡ paid book.old m.now.number m.now.row x y }
+    ensures { book.new ≡ paid book.old m.now.number m.now.row faults.buyer faults.seller }
 {
-    match (x, y) {
+    match (faults.buyer, faults.seller) {
         (None, None) => {
             let stage = paid_stage(book, m);
             into_held(book, m, stage);
         }
-        _ => fault_ended(book, m, x, y),
+        _ => fault_ended(book, m, faults),
     }
 }
 
@@ -144,9 +144,11 @@ pub fn pay_match(month: &mut Month, number: u64) -> Result<u64, Refusal>
     if month.book.day < m.row.due as u64 {
         return Err(Refusal::BeforeDueDay);
     }
-    let x = buyer_fault(&month.book, &m);
-    let y = seller_fault(&month.book, &m);
-    paid(&mut month.book, &m, x, y);
+    let faults = Faults {
+        buyer: buyer_fault(&month.book, &m),
+        seller: seller_fault(&month.book, &m),
+    };
+    paid(&mut month.book, &m, faults);
     Ok(0)
 }
 
