@@ -12,9 +12,9 @@ ghost use Rattle.text.specs.Page.{right, side_word, class_word, state_word};
 ghost use Rattle.text.specs.Page.{line, account_columns, receipt_columns, match_columns, count_columns};
 ghost use Rattle.text.specs.Page.{page_section, page, lent, page_answer};
 
-use book::{Account, Book, Match, Month, Receipt, ReceiptState, Refusal, Side};
+use book::{Account, Book, Match, Month, Receipt, ReceiptState, Refusal, Side, in_use};
 use fields::{print_cash, print_number, print_spaces, print_word};
-use text::{Printer, Row, in_use, print_rows, stage_number};
+use text::{Printer, Row, print_rows, stage_number};
 
 fn side_word(side: Side) -> &'static [u8]
     ensures word { result.now ≡ side_word side }

@@ -3,6 +3,8 @@
 
 ghost use Rattle.firmware.specs.Served.{Served, PageServed, Tabled};
 
+use text::Printer;
+
 // A session from a buffer to a buffer: how many bytes were written, or 0, with nothing written, where the output has less room than every session needs.
 #[unsafe(no_mangle)]
 pub extern "C" fn delivery_session(input: &[u8], out: &mut [u8]) -> usize
@@ -30,5 +32,7 @@ pub extern "C" fn delivery_heat_table(out: &mut [u8]) -> usize
     if out.len() < 18_711 {
         return 0;
     }
-    heat_text::put_table(out, 0)
+    let mut printer = Printer { out, at: 0 };
+    heat_text::print_table(&mut printer);
+    printer.at
 }

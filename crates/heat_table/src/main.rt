@@ -2,13 +2,18 @@
 #![tactic(auto)]
 
 use std::io;
+use text::Printer;
 
 // Room for the table: 1,701 lines of 11 bytes.
 const TABLE: usize = 18_711;
 
 fn main(rt: HostRuntime) -> io::Result<()> {
     let mut out = filling::buffer::<TABLE>();
-    // What the C interface serves writes into a lent buffer, and answers how many bytes.
-    let r = heat_text::put_table(&mut out, 0);
+    let mut printer = Printer {
+        out: &mut out,
+        at: 0,
+    };
+    heat_text::print_table(&mut printer);
+    let r = printer.at;
     rt.write_all(&out[..r])
 }

@@ -2,7 +2,7 @@
 #![tactic(auto)]
 
 ghost use Rattle.std.specs.Prelude.{◌≡◌, ◌+◌, ◌<◌, ◌≤◌, ◌^◌, length};
-ghost use Rattle.text.specs.Print.{Put, digits};
+ghost use Rattle.text.specs.Print.{digits};
 ghost use Rattle.text.specs.Printer.{HasRoom, Prints};
 ghost use Rattle.text.specs.Page.{line};
 ghost use Rattle.heat_text.specs.Printed.{printed_table};
@@ -29,13 +29,12 @@ impl Row<TableForm> for u64 {
     }
 }
 
-// The numerators for heats 4,300 to 6,000, written at a place.
+// The numerators for heats 4,300 to 6,000.
 #[tactic(auto, using(crate::proofs::Lines::entry_few))]
-pub fn put_table(out: &mut [u8], at: usize) -> usize
-    requires { at + 18_711 ≤ length out.old }
-    ensures { Put out.old out.new at result printed_table × (result ≡ at + 18_711) }
+pub fn print_table(printer: &mut Printer)
+    requires { HasRoom printer.old 18_711 }
+    ensures printed { Prints printer.old printer.new printed_table }
+    ensures wide { printer.new.at ≡ printer.old.at + 18_711 }
 {
-    let mut printer = Printer { out, at };
-    print_rows(&mut printer, heats::numerators());
-    printer.at
+    print_rows(printer, heats::numerators());
 }

@@ -10,9 +10,11 @@ use Rattle.book.proofs.laws.Counting.{by_pick}
 use Rattle.reader.specs.declared.lines.BadLine.{BadLine}
 use Rattle.reader.specs.Numbers.{is_digit, numbers, numbers_on}
 use Rattle.reader.specs.Lines.{lines, line_length, line_of, call_of, bad}
-use Rattle.text.specs.Print.{Put, answer_line, digits, last_digits, spaced}
+use Rattle.text.specs.declared.print.Printer.{Printer}
+use Rattle.text.specs.Print.{answer_line, digits, last_digits, spaced}
+use Rattle.text.specs.Printer.{Prints}
 use Rattle.reader.proofs.Cutting.{Cut, cut_some}
-use Rattle.text.proofs.Printing.{put_then, put_none}
+use Rattle.text.proofs.Printing.{prints_then, prints_none}
 use Rattle.running.specs.Later.{reply, answers, call_then, calls_of}
 
 -- the calls of a line and of those after it, from the book that it was answered in
@@ -59,32 +61,32 @@ reply_short b [] h k = absurd (omega arith)
 reply_short b (x ∷ []) h k = rw (single_bad x) (omega arith)
 reply_short b (x ∷ y ∷ l) h k = omega arith
 
--- with w bytes written: who writes the answers to come has written them all
-pub record Printed (text : List ℕ) (b : Book) (at : ℕ) (before : List ℕ) (rest : List ℕ) (next : Book) (w : ℕ) (out : List ℕ) : Type 0 where
+-- who prints the answers to come has printed them all
+pub record Printed (text : List ℕ) (b : Book) (before : Printer) (rest : List ℕ) (next : Book) (now : Printer) : Type 0 where
   pub led : Led text b rest next
-  pub room : w + 12 * length rest ≤ at + 12 * length text
-  pub long : length out ≡ length before
-  pub on : (z : List ℕ) (r : ℕ) → Put out z w r (answers next (lines rest)) → Put before z at r (answers b (lines text))
+  pub room : now.at + 12 * length rest ≤ before.at + 12 * length text
+  pub long : length now.out.now ≡ length before.out.now
+  pub on : (z : Printer) → Prints now z (answers next (lines rest)) → Prints before z (answers b (lines text))
 
 module _ {text rest line later : List ℕ} {b next : Book} (h : 0 < length rest) (p : line ≡ take (line_length rest) rest) (q : later ≡ drop (line_length rest) rest) where
   -- one line's answer
-  pub printed_on : {at w v : ℕ} {before out out' : List ℕ} → Printed text b at before rest next w out → (o : Outcome) → o ≡ reply next (line_of line)
-      → Put out out' w v (answer_line o.answer) → v ≤ w + 24 → length out' ≡ length out → Printed text b at before later o.book v out'
+  pub printed_on : {before now then : Printer} → Printed text b before rest next now → (o : Outcome) → o ≡ reply next (line_of line)
+      → Prints now then (answer_line o.answer) → then.at ≤ now.at + 24 → Printed text b before later o.book then
   unfolding answers
-  printed_on {w} {v} i o e put few same =
+  printed_on {now = now} {then} i o e printed few =
       let c = cut_some rest h in
       let some : 1 ≤ length line = rw p (omega (arith, c.some, c.within, length-take (line_length rest) rest)) in
-      let written : Put _ _ w v (answer_line (reply next (line_of line)).answer) = rw e at put in
-      let short = reply_short next line some (omega (arith, written.next)) in
+      let written : Prints now then (answer_line (reply next (line_of line)).answer) = rw e at printed in
+      let short = reply_short next line some (omega (arith, written.put.next)) in
       let whole : length line + length later ≡ length rest = rw (p, q) (omega (arith, c.within, length-take (line_length rest) rest, length-drop (line_length rest) rest)) in
       record {
         led = led_on h p q i.led o e;
-        room = omega (arith, i.room, short, written.next, whole);
-        long = same ∙ i.long;
-        on = λ z r rest'. i.on z r (rw (first rest h p q) (put_then written (rw e at rest')));
+        room = omega (arith, i.room, short, written.put.next, whole);
+        long = printed.long ∙ i.long;
+        on = λ z rest'. i.on z (rw (first rest h p q) (prints_then written (rw e at rest')));
       }
 
 -- none is left
-pub printed_all : {text rest : List ℕ} {b next : Book} {at w : ℕ} {before out : List ℕ} → Printed text b at before rest next w out → length rest ≡ 0 → Put before out at w (answers b (lines text))
+pub printed_all : {text rest : List ℕ} {b next : Book} {before now : Printer} → Printed text b before rest next now → length rest ≡ 0 → Prints before now (answers b (lines text))
 unfolding lines answers
-printed_all {rest} {w} {out} i h = i.on out w (rw (nil_from_length rest h) (put_none out w))
+printed_all {rest} {now} i h = i.on now (rw (nil_from_length rest h) (prints_none now))

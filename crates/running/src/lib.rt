@@ -5,10 +5,11 @@ ghost use Rattle.std.specs.Prelude.{◌≡◌, ◌+◌, ◌*◌, ◌≤◌, leng
 ghost use Rattle.book.specs.Answers.{outcome};
 ghost use Rattle.book.specs.Lists.{after};
 ghost use Rattle.reader.specs.Lines.{lines, line_of};
-ghost use Rattle.text.specs.Print.{Put};
+ghost use Rattle.text.specs.Printer.{HasRoom, Prints};
 ghost use Rattle.running.specs.Later.{reply, answers, calls_of};
 
 use book::{Month, Refusal};
+use text::Printer;
 
 // The answer to a line: its call is made; "26 a line not of the form" leaves the book as it was.
 fn reply(month: &mut Month, line: &[u8]) -> Result<u64, Refusal>
@@ -33,19 +34,16 @@ pub fn run(month: &mut Month, text: &[u8])
 }
 
 // The same, with the answers printed: "Each line prints `ok n` .. or `no n`."
-pub fn print_run(month: &mut Month, text: &[u8], out: &mut [u8], at: usize) -> usize
-    requires { at + 12 * length text.now + 12 ≤ length out.old }
+pub fn print_run(month: &mut Month, text: &[u8], printer: &mut Printer)
+    requires { HasRoom printer.old (12 * length text.now + 12) }
     ensures book { month.new ≡ after month.old (calls_of (lines text.now)) }
-    ensures answers { Put out.old out.new at result (answers month.old (lines text.now)) }
-    ensures room { result ≤ at + 12 * length text.now }
+    ensures answers { Prints printer.old printer.new (answers month.old (lines text.now)) }
+    ensures room { printer.new.at ≤ printer.old.at + 12 * length text.now }
 {
-    let mut w = at;
     let mut rest = text;
     while !rest.is_empty() {
         let (line, later) = rest.split_at(reader::line_length(rest));
-        let answer = reply(month, line);
-        w = text::put_answer(out, w, answer);
+        printer.answer(reply(month, line));
         rest = later;
     }
-    w
 }

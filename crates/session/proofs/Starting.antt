@@ -1,6 +1,6 @@
 -- A session from its first line: line one's outcome, and what the whole comes to. Assumes nothing.
 use Rattle.std.specs.Prelude.{◌≡◌, true, List, [], ◌∷◌, ℕ, ◌-◌, ◌≤◌, ◌<◌, ltb, length, take, drop, Result, Ok, Err}
-use Rattle.std.proofs.Common.{refl, ap, sym, ◌∙◌, arith, lt-ltb, le-ltb, ltb-false, length-take, length-drop, append-nil}
+use Rattle.std.proofs.Common.{refl, ap, sym, ◌∙◌, arith, lt-ltb, le-ltb, length-take, length-drop, append-nil}
 use Rattle.std.proofs.Math.Seq.{take-length}
 use mathlib.Core.Bool.{true≢false}
 use Rattle.book.specs.declared.tables.Book.{Book}
@@ -17,10 +17,12 @@ use Rattle.reader.specs.declared.lines.BadLine.{BadLine}
 use Rattle.reader.specs.declared.lines.Opening.{Opening}
 use Rattle.reader.specs.Numbers.{numbers, numbers_on}
 use Rattle.reader.specs.Lines.{lines, line_length, opening_of, opening_line_of}
+use Rattle.text.specs.declared.print.Printer.{Printer}
 use Rattle.text.specs.Print.{Put, answer_line}
+use Rattle.text.specs.Printer.{Prints}
 use Rattle.text.specs.Ledger.{ledger}
 use Rattle.reader.proofs.Cutting.{cut_some}
-use Rattle.text.proofs.Printing.{put_then}
+use Rattle.text.proofs.Printing.{prints_then}
 use Rattle.running.specs.Later.{answers, calls_of}
 use Rattle.session.specs.Session.{told, opened, first, later, line_one, session, outcome, Demanded, Delivered}
 
@@ -60,16 +62,12 @@ by_opening P f (l ∷ ls) h = go (opening_line_of l) h
 pub demanded : (ls : List (List ℕ)) → Demanded ls
 demanded ls = by_opening (λ (o : Outcome). Holds o.book (calls_of (later ls)) (after o.book (calls_of (later ls)))) (λ kind t r p a. demand_3 kind t r p a (calls_of (later ls))) ls
 
--- of an input that is not too long, and its book is reached
-pub record Begun (s : List ℕ) (b : Book) : Type 0 where
-  pub few : length s ≤ 65_536
-  pub reached : Reached b
-
-begun : (s : List ℕ) → is_accepted (line_one s).answer ≡ true → Begun s (line_one s).book
+-- and its book is reached
+begun : (s : List ℕ) → is_accepted (line_one s).answer ≡ true → Reached (line_one s).book
 unfolding line_one
-begun s = by_pick (λ (o : Outcome). is_accepted o.answer ≡ true → Begun s o.book) (ltb 65_536 (length s))
+begun s = by_pick (λ (o : Outcome). is_accepted o.answer ≡ true → Reached o.book) (ltb 65_536 (length s))
     (λ _ a. absurd (true≢false (sym a)))
-    (λ h a. record { few = ltb-false _ _ h; reached = by_opening (λ (o : Outcome). Reached o.book) reached-opening (lines s) a })
+    (λ _ a. by_opening (λ (o : Outcome). Reached o.book) reached-opening (lines s) a)
 
 after_reached : {b : Book} (cs : List Call) → Reached b → Reached (after b cs)
 unfolding after
@@ -79,23 +77,20 @@ after_reached {b = b} (c ∷ cs) h = after_reached {b = (step b c).book} cs (cal
 -- ---- the whole, from line one on
 
 module _ (s : List ℕ) (n : ℕ) (e : refuse n no_book ≡ line_one s) where
-  pub refused_put : {x y : List ℕ} {v : ℕ} → Put x y 0 v (answer_line (Answer.Refused n)) → Put x y 0 v (session s)
+  pub refused_prints : {x y : Printer} → Prints x y (answer_line (Answer.Refused n)) → Prints x y (session s)
   unfolding session
-  refused_put f = rw (← e, append-nil (answer_line (Answer.Refused n))) f
+  refused_prints f = rw (← e, append-nil (answer_line (Answer.Refused n))) f
 
   pub refused_outcome : refuse n no_book ≡ outcome s
   unfolding outcome
   refused_outcome = rw (← e)
 
 module _ (s : List ℕ) {b : Book} (e : accept 0 b ≡ line_one s) where
-  pub has_begun : Begun s b
-  has_begun = rw (ap (λ (o : Outcome). o.book) e) (begun s (rw (← e) refl))
-
   -- the lines after line one were run
   module _ (l : List ℕ) {b' : Book} (p : lines l ≡ later (lines s)) (q : b' ≡ after b (calls_of (lines l))) where
-    pub accepted_put : {x y z out : List ℕ} {w v r : ℕ} → Put x y 0 w (answer_line (Answer.Accepted 0)) → Put y z w v (answers b (lines l)) → Put z out v r (ledger b') → Put x out 0 r (session s)
+    pub accepted_prints : {w x y z : Printer} → Prints w x (answer_line (Answer.Accepted 0)) → Prints x y (answers b (lines l)) → Prints y z (ledger b') → Prints w z (session s)
     unfolding session told
-    accepted_put f g h = rw (← e, ← p) (put_then f (put_then g (rw q at h)))
+    accepted_prints f g h = rw (← e, ← p) (prints_then f (prints_then g (rw q at h)))
 
     pub accepted_outcome : accept 0 b' ≡ outcome s
     unfolding outcome
@@ -111,5 +106,5 @@ delivered {s} {x} {out} {r} p =
 pub outcome_led : (s : List ℕ) → is_accepted (outcome s).answer ≡ true → Reached (outcome s).book
 unfolding outcome
 outcome_led s = by_pick (λ (o : Outcome). is_accepted o.answer ≡ true → Reached o.book) (is_accepted (line_one s).answer)
-    (λ a _. after_reached (calls_of (later (lines s))) (begun s a).reached)
+    (λ a _. after_reached (calls_of (later (lines s))) (begun s a))
     (λ a h. absurd (true≢false (sym h ∙ a)))

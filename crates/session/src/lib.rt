@@ -1,21 +1,24 @@
 // A session: from the bytes of its input to the bytes of its output, or to the page of the book after it.
 #![tactic(auto)]
 
-ghost use Rattle.std.specs.Prelude.{◌≡◌, ◌≤◌, length};
+ghost use Rattle.std.specs.Prelude.{◌≡◌, ◌≤◌, IfOk, length};
 ghost use Rattle.book.specs.Outcomes.{Answer};
 ghost use Rattle.book.specs.Opening.{opened};
 ghost use Rattle.book.specs.Codes.{refusal_number};
 ghost use Rattle.reader.specs.Lines.{lines};
 ghost use Rattle.text.specs.Print.{answer_line};
 ghost use Rattle.text.specs.Page.{lent};
-ghost use Rattle.session.specs.Session.{line_one, later, outcome, room, Delivered};
+ghost use Rattle.text.specs.Printer.{HasRoom, Prints};
+ghost use Rattle.session.specs.Session.{line_one, later, session, outcome, room, Delivered};
 ghost use Rattle.session.specs.Paging.{lent_count, Paged};
 
 use book::{Month, Refusal};
+use text::Printer;
 
 // "Line one is `0 kind T R price`": the month that it opens.
 fn line_one(input: &[u8]) -> Result<Month, Refusal>
-    ensures { opened result ≡ line_one input.now }
+    ensures opened { opened result ≡ line_one input.now }
+    ensures short { IfOk result (λ _. length input.now ≤ 65_536) }
 {
     if 65_536 < input.len() {
         return Err(Refusal::BadLine);
@@ -35,19 +38,31 @@ fn later_lines(input: &[u8]) -> &[u8]
     &input[reader::line_length(input)..]
 }
 
+// The output of a session: the answer to line one and, where that is accepted, those to the later lines, "Then the ledger".
+#[tactic(auto, using(text::proofs::Columns::few))]
+fn print_session(printer: &mut Printer, input: &[u8])
+    requires { HasRoom printer.old room }
+    ensures { Prints printer.old printer.new (session input.now) }
+{
+    match line_one(input) {
+        Ok(mut month) => {
+            printer.answer(Ok(0));
+            running::print_run(&mut month, later_lines(input), printer);
+            text::print_ledger(printer, &month.book);
+        }
+        Err(refusal) => printer.answer(Err(refusal)),
+    }
+}
+
 // "It reads standard input": the output of a session, for every input, written from the start of `out`; how many bytes it has.
+#[tactic(auto, using(crate::proofs::Starting::delivered))]
 pub fn session(input: &[u8], out: &mut [u8]) -> usize
     requires { room ≤ length out.old }
     ensures { Delivered input.now out.old out.new result }
 {
-    match line_one(input) {
-        Ok(mut month) => {
-            let w = text::put_answer(out, 0, Ok(0));
-            let w = running::print_run(&mut month, later_lines(input), out, w);
-            text::put_ledger(out, w, &month.book)
-        }
-        Err(refusal) => text::put_answer(out, 0, Err(refusal)),
-    }
+    let mut printer = Printer { out, at: 0 };
+    print_session(&mut printer, input);
+    printer.at
 }
 
 // The month after a session; nothing is printed.
@@ -65,12 +80,17 @@ fn lend_refusal(out: &mut [u8], refusal: Refusal) -> Option<usize>
     ensures text { out.new ≡ lent (answer_line (Answer.Refused (refusal_number refusal))) out.old }
 {
     let mut line = [0; 24];
-    let w = text::put_answer(&mut line, 0, Err(refusal));
-    if out.len() < w {
+    let mut printer = Printer {
+        out: &mut line,
+        at: 0,
+    };
+    printer.answer(Err(refusal));
+    let length = printer.at;
+    if out.len() < length {
         return None;
     }
-    out[..w].copy_from_slice(&line[..w]);
-    Some(w)
+    out[..length].copy_from_slice(&printer.out[..length]);
+    Some(length)
 }
 
 // What the page program prints, at the front of a lent buffer: how many bytes it has; none, and nothing is written, where the buffer is too short.

@@ -2,13 +2,12 @@
 ghost use Rattle.std.specs.Prelude.{◌≡◌, ⊤, ℕ, ◌+◌, ◌*◌, ◌≤◌, ◌<◌, length, get_or};
 ghost use Rattle.book.specs.Codes.{side_number, class_number, state_number, stage_number};
 ghost use Rattle.book.specs.Rows.{blank_account, blank_receipt, blank_match};
-ghost use Rattle.text.specs.Print.{Put};
 ghost use Rattle.text.specs.Printer.{HasRoom, Prints};
 ghost use Rattle.text.specs.Ledger.{account_line, receipt_line, match_line, section, ledger};
 
 use crate::print::Printer;
-use crate::rows::{Row, in_use, print_rows};
-use book::{Account, Book, Match, Receipt, ReceiptState, Side, Stage};
+use crate::rows::{Row, print_rows};
+use book::{Account, Book, Match, Receipt, ReceiptState, Side, Stage, in_use};
 
 fn side_number(side: Side) -> u64
     ensures { result ≡ side_number side }
@@ -112,7 +111,7 @@ fn print_section<T: Row<LedgerForm>>(printer: &mut Printer, word: &[u8], rows: &
 }
 
 // The page has the same frame; one of both would take the head line and the forms of three rows as a trait.
-fn print_ledger(printer: &mut Printer, book: &Book)
+pub fn print_ledger(printer: &mut Printer, book: &Book)
     requires room { HasRoom printer.old 61_971 }
     requires accounts { book.now.account_count ≤ 32 }
     requires receipts { book.now.receipt_count ≤ 256 }
@@ -132,14 +131,4 @@ fn print_ledger(printer: &mut Printer, book: &Book)
     );
     print_section(printer, b"matches", in_use(&book.matches, book.match_count));
     printer.heading(b"fund", book.fund);
-}
-
-// The ledger at a place of a lent buffer; the result is the place after it.
-pub fn put_ledger(out: &mut [u8], at: usize, book: &Book) -> usize
-    requires { (at + 61_971 ≤ length out.old) × (book.now.account_count ≤ 32) × (book.now.receipt_count ≤ 256) × (book.now.match_count ≤ 256) }
-    ensures { Put out.old out.new at result (ledger book.now) × (result ≤ at + 61_971) }
-{
-    let mut printer = Printer { out, at };
-    print_ledger(&mut printer, book);
-    printer.at
 }

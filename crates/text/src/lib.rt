@@ -5,6 +5,6 @@ mod ledger;
 mod print;
 mod rows;
 
-pub use ledger::{put_ledger, stage_number};
-pub use print::{Printer, put_answer};
-pub use rows::{Row, in_use, print_rows};
+pub use ledger::{print_ledger, stage_number};
+pub use print::Printer;
+pub use rows::{Row, print_rows};

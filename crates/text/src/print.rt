@@ -125,17 +125,16 @@ impl<'a> Printer<'a> {
         self.bytes(word);
         self.rest(&[n]);
     }
-}
 
-// `ok n` or `no n`, at a place of a lent buffer, for callers that hold the two apart; the result is the place after it.
-pub fn put_answer(out: &mut [u8], at: usize, answer: Result<u64, Refusal>) -> usize
-    requires { at + 24 ≤ length out.old }
-    ensures { Put out.old out.new at result (answer_line (answer_of answer)) × (result ≤ at + 24) }
-{
-    let mut printer = Printer { out, at };
-    match answer {
-        Ok(n) => printer.heading(b"ok", n),
-        Err(refusal) => printer.heading(b"no", refusal.number()),
+    // `ok n` or `no n`.
+    pub fn answer(&mut self, answer: Result<u64, Refusal>)
+        requires { HasRoom self.old 24 }
+        ensures printed { Prints self.old self.new (answer_line (answer_of answer)) }
+        ensures few { self.new.at ≤ self.old.at + 24 }
+    {
+        match answer {
+            Ok(n) => self.heading(b"ok", n),
+            Err(refusal) => self.heading(b"no", refusal.number()),
+        }
     }
-    printer.at
 }

@@ -1,5 +1,5 @@
 // The rows of a table, printed one after the other.
-ghost use Rattle.std.specs.Prelude.{◌≡◌, List, ℕ, ◌+◌, ◌*◌, ◌<◌, ◌≤◌, length, take, get_or};
+ghost use Rattle.std.specs.Prelude.{List, ℕ, ◌+◌, ◌*◌, ◌<◌, ◌≤◌, length, get_or};
 ghost use Rattle.text.specs.Ledger.{each};
 ghost use Rattle.text.specs.Printer.{HasRoom, Prints};
 
@@ -24,15 +24,6 @@ pub trait Row<Form> {
         requires fits { fits number self.now }
         ensures printed { Prints printer.old printer.new (line number self.now) }
         ensures few { printer.new.at ≤ printer.old.at + most };
-}
-
-// The rows of a table that are in use, the first so many.
-pub fn in_use<T, const N: usize>(table: &[T; N], count: usize) -> &[T]
-    requires { count ≤ N }
-    ensures rows { result.now ≡ take count table.now }
-    ensures many { length result.now ≡ count }
-{
-    &table[..count]
 }
 
 pub fn print_rows<Form, T: Row<Form>>(printer: &mut Printer, rows: &[T])

@@ -4,8 +4,8 @@ use Rattle.running.proofs.print_run.Goals as goal
 
 pub loop-rest-preserved : goal.loop-rest-preserved
 loop-rest-preserved c =
-    let put = c.put_answer-w.ensures in
-    printed_on (search rules) (search rules) (search rules) c.loop-rest.invariant _ c.reply-answer.ensures put.0 put.1 c.put_answer-w.auto.out
+    let answer = c.answer.ensures in
+    printed_on (search rules) (search rules) (search rules) c.loop-rest.invariant _ c.reply.ensures answer.printed answer.few
 
 pub returns-clause-book : goal.returns-clause-book
 returns-clause-book c = led_all c.loop-rest.invariant.led (search rules)

@@ -4,7 +4,7 @@ use Rattle.running.proofs.Running.{Printed}
 use Rattle.running.proofs.print_run.Given as goal
 
 abbrev pub invariant-loop-rest : goal.invariant-loop-rest
-invariant-loop-rest l = Printed l.text l.initial.month l.at l.initial.out l.rest l.month l.w l.out
+invariant-loop-rest l = Printed l.text l.initial.month l.initial.printer l.rest l.month l.printer
 
 abbrev pub decreases-loop-rest : goal.decreases-loop-rest
 decreases-loop-rest l = length l.rest
