@@ -1,4 +1,4 @@
-// The heat table program: standard output is the numerators for heats 4,300 to 6,000, one to a line.
+// The heat table program: standard output is the numerators for heats 4,300 to 6,000, one to a line. It differs from `delivery` and `page` in what is printed, which is all of it.
 #![tactic(auto)]
 
 use std::io;

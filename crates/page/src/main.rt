@@ -1,4 +1,4 @@
-// The page program: standard input is a session, standard output the ledger page of the book after it.
+// The page program: standard input is a session, standard output the ledger page of the book after it. It differs from `delivery` in what is printed, which is most of it.
 #![tactic(auto)]
 
 use std::io;

@@ -21,7 +21,7 @@ fn reply(month: &mut Month, line: &[u8]) -> Result<u64, Refusal>
     calls::apply(month, call)
 }
 
-// The calls of the lines of a text. It and `print_run` are four lines each: one over a closure would have to say where in a fold each answer lies.
+// The calls of the lines of a text. It and `print_run` are three lines in the same loop: one of both over a closure would have to say where in a fold each answer lies, and over an optional printer, in each clause, whether there is one.
 pub fn run(month: &mut Month, text: &[u8])
     ensures { month.new ≡ after month.old (calls_of (lines text.now)) }
 {

@@ -1,3 +1,4 @@
+-- With `prints_then` in `using` the search stops at its limits.
 use Rattle.fields.proofs.Aligning.{padded_prints}
 use Rattle.text.proofs.Printing.{prints_then}
 use Rattle.columns.proofs.print_count.Goals as goal

@@ -1,3 +1,4 @@
+-- With `prints_then` in `using` the search stops at its limits.
 use Rattle.text.proofs.Printing.{prints_then}
 use Rattle.columns.proofs.print_section.Goals as goal
 

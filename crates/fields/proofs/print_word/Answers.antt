@@ -1,3 +1,4 @@
+-- With `right_prints` in `using` the search stops at its limits.
 use Rattle.fields.proofs.Aligning.{right_prints}
 use Rattle.fields.proofs.print_word.Goals as goal
 

@@ -1,3 +1,4 @@
+-- With `yuan_prints` in `using` the search stops at its limits.
 use Rattle.std.proofs.Common.{arith}
 use Rattle.fields.proofs.Aligning.{yuan_prints}
 use Rattle.fields.proofs.print_yuan.Goals as goal

@@ -1,3 +1,4 @@
+-- With `prints_then` in `using` the search stops at its limits.
 use Rattle.std.proofs.Common.{◌≡◌, rules}
 use Rattle.text.proofs.Printing.{prints_then}
 use Rattle.text.proofs.Signs.{kept}
