@@ -34,7 +34,7 @@ impl Lot {
     }
 }
 
-// "up to four opening days with the units of each", in rising order of days; a place with 0 units is free, and no Option: it adds and uses up like any other.
+// "up to four opening days with the units of each", in rising order of days; a place with 0 units is free, and no Option: it adds and uses up like any other. No ArrayVec, which is not Copy, as `[v; 32]` asks of a row.
 #[derive(Clone, Copy, PartialEq, Eq)]
 pub struct Lots {
     pub oldest: Lot,
@@ -74,7 +74,7 @@ impl Lots {
         self.newest = Lot { day, units };
     }
 
-    // "use up the oldest first": so many units less, of which each lot gives what the older ones did not.
+    // "use up the oldest first": so many units less, of which each lot gives what the older ones did not. Four calls, since the places have names, as in the definitions: a loop over `[Lot; 4]` that carries what is left is as long.
     fn use_up(&mut self, units: u64)
         ensures { self.new ≡ lots_off self.old units }
     {

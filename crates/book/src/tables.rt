@@ -28,7 +28,7 @@ pub struct Book {
     pub match_count: usize,
 }
 
-// One of a list of buyers or sellers in Close: an account's number, the units left to it, and where it is a lot its day, else 0: only lots are compared by day.
+// One of a list of buyers or sellers in Close: an account's number, the units left to it, and where it is a lot its day, else 0, which nothing reads: only lots are compared by day.
 #[derive(Clone, Copy, Default)]
 pub struct Listed {
     pub account: u8,
