@@ -43,8 +43,7 @@ pub fn auction(month: &mut Month, number: u64, winner: u64, proceeds: u64) -> Re
 {
     let taker = month.book.account_place(winner)?;
     let proceeds = Amount::try_from(proceeds)?;
-    month.book.match_place(number)?;
-    let m = ValuedMatch::of(&month.book, number);
+    let m = ValuedMatch::of(&month.book, number)?;
     if m.row.stage != Stage::Awaiting {
         return Err(Refusal::WrongStage);
     }

@@ -146,11 +146,9 @@ pub fn punish(book: &mut Book, m: &ValuedMatch, faults: Faults)
 pub fn fault(fit: bool, lacking: bool, rate: Percent) -> Option<Percent>
     ensures { result ≡ pick (not fit) (Some 10) (pick lacking (Some rate) None) }
 {
-    if !fit {
-        return Some(Percent { value: 10 });
+    if fit {
+        lacking.then_some(rate)
+    } else {
+        Some(Percent { value: 10 })
     }
-    if lacking {
-        return Some(rate);
-    }
-    None
 }

@@ -1,10 +1,11 @@
 // A match that is settled: its number, its row and what it is worth.
-ghost use Rattle.std.specs.Prelude.{◌≡◌, ◌<◌};
+ghost use Rattle.std.specs.Prelude.{◌≡◌, ◌≤◌, ◌<◌, IfOk, IfErr};
+ghost use Rattle.book.specs.declared.refusals.Refusal.{Refusal};
 ghost use Rattle.book.specs.Lists.{Reached};
 ghost use Rattle.payments.specs.Money.{valued, Due};
 
 use crate::value;
-use book::{Amount, Book, Match};
+use book::{Amount, Book, Match, Refusal};
 
 // What is known of it is `Due`, and no invariant of the struct: `Due` speaks of the book beside the match.
 #[derive(Clone, Copy)]
@@ -15,19 +16,19 @@ pub struct ValuedMatch {
 }
 
 impl ValuedMatch {
-    // The match of a number, where the book has it. Each call asks place and stage by itself: one function of the three needs a definition of what it refuses and its law in each call, longer than they are.
+    // The match of a number, "21 no such match". Each call asks its stage by itself: one function of match and stage needs a definition of what it refuses and its law in each call, longer than they are.
     #[tactic(auto, using(reached::specs::Needs::calls, crate::proofs::Money::due_sound), unfolding(book::specs::Settlement::value))]
-    pub fn of(book: &Book, number: u64) -> ValuedMatch
-        requires reached { Reached book.now }
-        requires there { number < book.now.match_count }
-        ensures value { result ≡ valued book.now number }
-        ensures due { Due book.now result }
+    pub fn of(book: &Book, number: u64) -> Result<ValuedMatch, Refusal>
+        requires { Reached book.now }
+        ensures there { IfOk result (λ m. (m ≡ valued book.now number) × (number < book.now.match_count) × Due book.now m) }
+        ensures missing { IfErr result (λ e. (e ≡ Refusal.NoMatch) × (book.now.match_count ≤ number)) }
     {
-        let row = book.matches[number as usize];
-        ValuedMatch {
-            number: number as u8,
+        let j = book.match_place(number)?;
+        let row = book.matches[j];
+        Ok(ValuedMatch {
+            number: j as u8,
             row,
             value: value(&row, book.tonnes),
-        }
+        })
     }
 }
