@@ -6,17 +6,20 @@ ghost use Rattle.book.specs.Answers.{outcome};
 ghost use Rattle.book.specs.Opening.{opened, opening, next_day};
 ghost use Rattle.book.specs.Accounts.{join, deposit, withdraw, trade};
 
-use book::{Account, Amount, Book, Month, Refusal, Side, flag};
+use book::{Account, Amount, Book, Month, Opening, Refusal, Side, flag};
 
 // "kind (0 receipts, 1 board), T tonnes per unit 1..20,000, default rate R 0..100 percent, price 1..1,000,000 fen/t"
-pub fn opening(kind: u64, tonnes: u64, rate: u64, price: u64) -> Result<Month, Refusal>
-    ensures { opened result ≡ opening kind tonnes rate price }
+pub fn opening(terms: &Opening) -> Result<Month, Refusal>
+    ensures { opened result ≡ opening terms.now.kind terms.now.tonnes terms.now.rate terms.now.price }
 {
-    let board = flag(kind, Refusal::OutOfRange)?;
-    if !(1..=20_000).contains(&tonnes) || 100 < rate || !(1..=1_000_000).contains(&price) {
+    let board = flag(terms.kind, Refusal::OutOfRange)?;
+    if !(1..=20_000).contains(&terms.tonnes)
+        || 100 < terms.rate
+        || !(1..=1_000_000).contains(&terms.price)
+    {
         return Err(Refusal::OutOfRange);
     }
-    let book = Book::fresh(board, tonnes, rate, price);
+    let book = Book::fresh(board, terms.tonnes, terms.rate, terms.price);
     Ok(Month { book })
 }
 

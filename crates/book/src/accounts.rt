@@ -119,7 +119,7 @@ impl Account {
         }
     }
 
-    // "cash up by it"
+    // "cash up by it"; `small` is for callers that read no field of the amount.
     pub fn credit(&mut self, amount: Amount)
         requires { nat_abs self.old.cash ≤ 2_000_000_000_000_000_000 }
         ensures credited { self.new ≡ credited self.old amount }

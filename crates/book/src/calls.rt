@@ -1,5 +1,14 @@
-// The calls that change a book.
+// What opens a book, and the calls that change it.
 use coal::Sample;
+
+// "Line one is `0 kind T R price`": what a book is opened with; the opening tests the numbers.
+#[derive(Clone, Copy)]
+pub struct Opening {
+    pub kind: u64,
+    pub tonnes: u64,
+    pub rate: u64,
+    pub price: u64,
+}
 
 // The eighteen calls, in the order of their numbers. Codes are numbers: a line may name one outside its set, which the call refuses (8).
 #[derive(Clone, Copy)]

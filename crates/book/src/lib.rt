@@ -13,7 +13,7 @@ pub mod tables;
 
 pub use accounts::{Account, Lot, Lots, Side};
 pub use amounts::{Amount, Percent};
-pub use calls::Call;
+pub use calls::{Call, Opening};
 pub use matches::{Match, Stage};
 pub use month::Month;
 pub use receipts::{Receipt, ReceiptState};

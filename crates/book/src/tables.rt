@@ -36,7 +36,7 @@ pub struct Listed {
     pub day: u16,
 }
 
-// The rows of a table that are in use, the first so many.
+// The rows of a table that are in use, the first so many. Where they are changed, a slice is cut in place: lent to be changed by such a function, it is no shorter.
 pub fn in_use<T, const N: usize>(table: &[T; N], count: usize) -> &[T]
     requires { count ≤ N }
     ensures rows { result.now ≡ take count table.now }
@@ -45,7 +45,7 @@ pub fn in_use<T, const N: usize>(table: &[T; N], count: usize) -> &[T]
     &table[..count]
 }
 
-// A row's place by its number, where the table has it.
+// A row's place by its number, where the table has it; the methods below say it of each table.
 fn place(count: usize, number: u64, refusal: Refusal) -> Result<usize, Refusal>
     ensures there { IfOk result (λ k. (k ≡ number) × (number < count)) }
     ensures missing { IfErr result (λ e. (e ≡ refusal) × (count ≤ number)) }

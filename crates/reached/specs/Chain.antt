@@ -1,4 +1,4 @@
--- A chain of refusals: one law for each kind of test that stops a call and one for each that lets it pass, applied backwards by `search chain`.
+-- A chain of refusals: one law for each kind of test that stops a call and one for each that lets it pass, as the set `chain`. No proof asks for them: calls are refused by `?`.
 -- Assumes nothing.
 use Rattle.std.specs.Prelude.{◌≡◌, refl, Bool, true, false, not, ◌||◌, ℕ, ◌≤◌, ◌<◌, leb, ltb, eqb}
 use Rattle.std.proofs.Common.{sym, ap, ◌∙◌, le-ltb, lt-ltb, le-leb, eq-eqb, ne_eqb}

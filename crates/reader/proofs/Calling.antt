@@ -12,7 +12,7 @@ use Rattle.coal.specs.Choice.{pick}
 use Rattle.book.specs.declared.calls.Call.{Call}
 use Rattle.book.specs.Codes.{sample}
 use Rattle.reader.specs.declared.lines.BadLine.{BadLine}
-use Rattle.reader.specs.declared.lines.Opening.{Opening}
+use Rattle.book.specs.declared.calls.Opening.{Opening}
 use Rattle.reader.specs.Numbers.{numbers}
 use Rattle.reader.specs.Lines.{bad, call_of, line_of, opening_of, opening_line_of, one_argument, two_arguments, three_arguments}
 

@@ -4,7 +4,7 @@ use Rattle.coal.specs.Choice.{pick}
 use Rattle.book.specs.declared.calls.Call.{Call}
 use Rattle.book.specs.Codes.{sample}
 use Rattle.reader.specs.declared.lines.BadLine.{BadLine}
-use Rattle.reader.specs.declared.lines.Opening.{Opening}
+use Rattle.book.specs.declared.calls.Opening.{Opening}
 use Rattle.reader.specs.Numbers.{numbers}
 
 -- ---- a text, cut into lines

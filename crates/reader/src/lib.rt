@@ -4,4 +4,4 @@
 mod lines;
 mod numbers;
 
-pub use lines::{BadLine, Opening, line_length, read_line, read_opening};
+pub use lines::{BadLine, line_length, read_line, read_opening};

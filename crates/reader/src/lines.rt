@@ -4,21 +4,12 @@ ghost use Rattle.std.specs.List.{position};
 ghost use Rattle.reader.specs.Lines.{line_length, call_of, line_of, opening_of, opening_line_of};
 
 use crate::numbers::read_numbers;
-use book::Call;
+use book::{Call, Opening};
 use coal::{Quality, Sample};
 
 // "a line not of the form"
 #[derive(Clone, Copy, PartialEq, Eq)]
 pub struct BadLine;
-
-// "Line one is `0 kind T R price`": what it opens a book with; `accounts::opening` alone tests the numbers.
-#[derive(Clone, Copy)]
-pub struct Opening {
-    pub kind: u64,
-    pub tonnes: u64,
-    pub rate: u64,
-    pub price: u64,
-}
 
 // The place of the first newline.
 fn newline(text: &[u8]) -> Option<usize>

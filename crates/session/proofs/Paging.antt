@@ -9,7 +9,7 @@ use Rattle.book.specs.Answers.{refuse, accept, is_accepted, answer_of}
 use Rattle.book.specs.Opening.{opening, no_book}
 use Rattle.book.proofs.laws.Counting.{by_pick}
 use Rattle.reader.specs.declared.lines.BadLine.{BadLine}
-use Rattle.reader.specs.declared.lines.Opening.{Opening}
+use Rattle.book.specs.declared.calls.Opening.{Opening}
 use Rattle.reader.specs.Lines.{lines, opening_line_of}
 use Rattle.text.specs.Print.{Put, answer_line, spaced, digits, last_digits}
 use Rattle.text.specs.Page.{page, lent, page_answer}

@@ -14,7 +14,7 @@ use Rattle.book.specs.Demand3.{Holds}
 use Rattle.book.proofs.laws.Counting.{by_pick}
 use Rattle.book.proofs.laws.Demand.{demand_3}
 use Rattle.reader.specs.declared.lines.BadLine.{BadLine}
-use Rattle.reader.specs.declared.lines.Opening.{Opening}
+use Rattle.book.specs.declared.calls.Opening.{Opening}
 use Rattle.reader.specs.Numbers.{numbers, numbers_on}
 use Rattle.reader.specs.Lines.{lines, line_length, opening_of, opening_line_of}
 use Rattle.text.specs.declared.print.Printer.{Printer}

@@ -8,7 +8,7 @@ use Rattle.book.specs.Opening.{opening, no_book}
 use Rattle.book.specs.Lists.{after}
 use Rattle.book.specs.Demand3.{Holds}
 use Rattle.reader.specs.declared.lines.BadLine.{BadLine}
-use Rattle.reader.specs.declared.lines.Opening.{Opening}
+use Rattle.book.specs.declared.calls.Opening.{Opening}
 use Rattle.reader.specs.Lines.{lines, opening_line_of}
 use Rattle.text.specs.Print.{answer_line}
 use Rattle.text.specs.Ledger.{ledger}

@@ -27,7 +27,7 @@ fn line_one(input: &[u8]) -> Result<Month, Refusal>
     let Ok(terms) = reader::read_opening(line) else {
         return Err(Refusal::BadLine);
     };
-    accounts::opening(terms.kind, terms.tonnes, terms.rate, terms.price)
+    accounts::opening(&terms)
 }
 
 // The lines after line one.

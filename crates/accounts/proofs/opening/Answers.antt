@@ -5,4 +5,4 @@ use Rattle.accounts.proofs.opening.Goals as goal
 
 pub invariant_of-result : goal.invariant_of-result
 unfolding opening
-invariant_of-result c = begun c.args.kind c.args.tonnes c.args.rate c.args.price (search rules)
+invariant_of-result c = let terms = c.args.terms.now in begun terms.kind terms.tonnes terms.rate terms.price (search rules)
