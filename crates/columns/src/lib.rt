@@ -164,7 +164,7 @@ pub fn put_page(out: &mut [u8], month: &Month) -> Result<usize, Refusal>
     if out.len() < length {
         return Err(Refusal::BufferShort);
     }
-    let mut printer = Printer { out, at: 0 };
+    let mut printer = Printer::new(out);
     print_page(&mut printer, book);
     Ok(length)
 }

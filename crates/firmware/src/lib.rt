@@ -32,7 +32,7 @@ pub extern "C" fn delivery_heat_table(out: &mut [u8]) -> usize
     if out.len() < 18_711 {
         return 0;
     }
-    let mut printer = Printer { out, at: 0 };
+    let mut printer = Printer::new(out);
     heat_text::print_table(&mut printer);
     printer.at
 }

@@ -9,10 +9,7 @@ const TABLE: usize = 18_711;
 
 fn main(rt: HostRuntime) -> io::Result<()> {
     let mut out = filling::buffer::<TABLE>();
-    let mut printer = Printer {
-        out: &mut out,
-        at: 0,
-    };
+    let mut printer = Printer::new(&mut out);
     heat_text::print_table(&mut printer);
     let r = printer.at;
     rt.write_all(&out[..r])

@@ -60,7 +60,7 @@ pub fn session(input: &[u8], out: &mut [u8]) -> usize
     requires { room ≤ length out.old }
     ensures { Delivered input.now out.old out.new result }
 {
-    let mut printer = Printer { out, at: 0 };
+    let mut printer = Printer::new(out);
     print_session(&mut printer, input);
     printer.at
 }
@@ -80,10 +80,7 @@ fn lend_refusal(out: &mut [u8], refusal: Refusal) -> Option<usize>
     ensures text { out.new ≡ lent (answer_line (Answer.Refused (refusal_number refusal))) out.old }
 {
     let mut line = [0; 24];
-    let mut printer = Printer {
-        out: &mut line,
-        at: 0,
-    };
+    let mut printer = Printer::new(&mut line);
     printer.answer(Err(refusal));
     let length = printer.at;
     if out.len() < length {

@@ -38,6 +38,14 @@ fn put_digits(out: &mut [u8], at: usize, n: u64) -> usize
 impl<'a> Printer<'a> {
     ghost use Rattle.text.specs.Printer.{HasRoom, Prints};
 
+    // At the start of a buffer.
+    pub fn new(out: &'a mut [u8]) -> Printer<'a>
+        ensures buffer { result.out ≡ out.entry }
+        ensures start { result.at ≡ 0 }
+    {
+        Printer { out, at: 0 }
+    }
+
     pub fn byte(&mut self, b: u8)
         requires { HasRoom self.old 1 }
         ensures { Prints self.old self.new (b ∷ []) }

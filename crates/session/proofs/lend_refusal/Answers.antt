@@ -9,7 +9,7 @@ pub returns-then-out-length-clause-text : goal.returns-then-out-length-clause-te
 returns-then-out-length-clause-text c = (lent_none _ (omega (arith, c.answer.ensures.printed.put.next, c.if-out-length.true))).1
 
 pub returns-clause-count : goal.returns-clause-count
-returns-clause-count c = (lent_again _ _ c.answer.ensures.printed.put c.if-out-length.false c.copy_from_slice.ensures.after).0
+returns-clause-count c = (lent_again _ _ (rw c.new-printer.ensures.start at c.answer.ensures.printed.put) c.if-out-length.false c.copy_from_slice.ensures.after).0
 
 pub returns-clause-text : goal.returns-clause-text
-returns-clause-text c = (lent_again _ _ c.answer.ensures.printed.put c.if-out-length.false c.copy_from_slice.ensures.after).1
+returns-clause-text c = (lent_again _ _ (rw c.new-printer.ensures.start at c.answer.ensures.printed.put) c.if-out-length.false c.copy_from_slice.ensures.after).1
