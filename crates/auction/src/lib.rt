@@ -43,7 +43,7 @@ pub fn auction(month: &mut Month, number: u64, winner: u64, proceeds: u64) -> Re
 {
     let taker = month.book.account_place(winner)?;
     let proceeds = Amount::try_from(proceeds)?;
-    let m = ValuedMatch::of(&month.book, number)?;
+    let m = ValuedMatch::of(month, number)?;
     if m.row.stage != Stage::Awaiting {
         return Err(Refusal::WrongStage);
     }

@@ -52,7 +52,7 @@ pub fn measure(month: &mut Month, number: u64, sample: &Sample) -> Result<u64, R
     if !month.book.board {
         return Err(Refusal::OtherKind);
     }
-    let m = ValuedMatch::of(&month.book, number)?;
+    let m = ValuedMatch::of(month, number)?;
     if m.row.stage != Stage::Prepaid {
         return Err(Refusal::WrongStage);
     }
@@ -122,7 +122,7 @@ pub fn terminate(month: &mut Month, number: u64, party: u64) -> Result<u64, Refu
         return Err(Refusal::OtherKind);
     }
     let party = Party::try_from(party)?;
-    let m = ValuedMatch::of(&month.book, number)?;
+    let m = ValuedMatch::of(month, number)?;
     if m.row.stage != Stage::Prepaid {
         return Err(Refusal::WrongStage);
     }

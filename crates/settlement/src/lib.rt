@@ -136,7 +136,7 @@ fn paid(book: &mut Book, m: &ValuedMatch, faults: Faults)
 pub fn pay_match(month: &mut Month, number: u64) -> Result<u64, Refusal>
     ensures { outcome result month.new ≡ pay_match month.old number }
 {
-    let m = ValuedMatch::of(&month.book, number)?;
+    let m = ValuedMatch::of(month, number)?;
     if m.row.stage != Stage::Paired {
         return Err(Refusal::WrongStage);
     }
@@ -158,7 +158,7 @@ pub fn pay_match(month: &mut Month, number: u64) -> Result<u64, Refusal>
 pub fn hand_over(month: &mut Month, number: u64) -> Result<u64, Refusal>
     ensures { outcome result month.new ≡ hand_over month.old number }
 {
-    let m = ValuedMatch::of(&month.book, number)?;
+    let m = ValuedMatch::of(month, number)?;
     if m.row.stage != Stage::Funded {
         return Err(Refusal::WrongStage);
     }
