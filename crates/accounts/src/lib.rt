@@ -116,8 +116,9 @@ pub fn trade(month: &mut Month, buyer: u64, seller: u64, units: u64) -> Result<u
         return Err(Refusal::OutsideSet);
     }
     let day = month.book.day;
-    let mut bought = month.book.accounts[i];
-    let mut sold = month.book.accounts[j];
+    let accounts = &month.book.accounts;
+    let bought = &accounts[i];
+    let sold = &accounts[j];
     if bought.side == Side::Short || sold.side == Side::Long {
         return Err(Refusal::OtherSide);
     }
@@ -127,9 +128,7 @@ pub fn trade(month: &mut Month, buyer: u64, seller: u64, units: u64) -> Result<u
     if bought.needs_fifth(day) || sold.needs_fifth(day) {
         return Err(Refusal::FifthDay);
     }
-    bought.add_units(Side::Long, units, day);
-    sold.add_units(Side::Short, units, day);
-    month.book.accounts[i] = bought;
-    month.book.accounts[j] = sold;
+    month.book.accounts[i].add_units(Side::Long, units, day);
+    month.book.accounts[j].add_units(Side::Short, units, day);
     Ok(0)
 }
