@@ -33,17 +33,18 @@ pub fn offer(month: &mut Month, seller: u64, units: u64) -> Result<u64, Refusal>
     if !(1..=1_000).contains(&units) {
         return Err(Refusal::OutsideSet);
     }
-    let account = month.book.accounts[k];
+    let book = &month.book;
+    let account = &book.accounts[k];
     if account.offer.is_some() {
         return Err(Refusal::OfferStands);
     }
     if account.units_of(Side::Short) < units {
         return Err(Refusal::AboveUnits);
     }
-    if receipts::lacks_receipts(&month.book, seller, units) {
+    if receipts::lacks_receipts(book, seller, units) {
         return Err(Refusal::AboveReceipts);
     }
-    if month.book.board && account.heat.is_none() {
+    if book.board && account.heat.is_none() {
         return Err(Refusal::HeatMissing);
     }
     month.book.accounts[k].offer = Some(units as u16);

@@ -44,13 +44,13 @@ pub fn lodge(month: &mut Month, owner: u64, class: u64) -> Result<u64, Refusal>
     if month.book.board {
         return Err(Refusal::OtherKind);
     }
-    month.book.account_place(owner)?;
+    let k = month.book.account_place(owner)?;
     let bonded = flag(class, Refusal::OutsideSet)?;
     let i = month.book.receipt_count;
     if Book::RECEIPTS <= i {
         return Err(Refusal::ReceiptsFull);
     }
-    month.book.receipts[i] = Receipt::new(owner as u8, bonded);
+    month.book.receipts[i] = Receipt::new(k as u8, bonded);
     month.book.receipt_count += 1;
     Ok(i as u64)
 }
@@ -64,7 +64,7 @@ pub fn strike(month: &mut Month, owner: u64, receipt: u64) -> Result<u64, Refusa
     }
     month.book.account_place(owner)?;
     let i = month.book.receipt_place(receipt)?;
-    let struck = month.book.receipts[i];
+    let struck = &month.book.receipts[i];
     if !struck.is_owned_by(owner) || struck.state == ReceiptState::Struck {
         return Err(Refusal::NoReceipt);
     }
