@@ -65,16 +65,17 @@ pub fn take_offer(month: &mut Month, buyer: u64, seller: u64) -> Result<u64, Ref
     if i == j {
         return Err(Refusal::BuyerIsSeller);
     }
-    let bought = month.book.accounts[i];
-    let sold = month.book.accounts[j];
+    let book = &month.book;
+    let bought = &book.accounts[i];
+    let sold = &book.accounts[j];
     let units = sold.offer.ok_or(Refusal::NoOffer)?;
     if bought.units_of(Side::Long) < units as u64 {
         return Err(Refusal::AboveUnits);
     }
-    if receipts::lacks_receipts(&month.book, seller, units as u64) {
+    if receipts::lacks_receipts(book, seller, units as u64) {
         return Err(Refusal::AboveReceipts);
     }
-    let number = month.book.match_count;
+    let number = book.match_count;
     if Book::TAKE_MATCHES <= number {
         return Err(Refusal::TakesFull);
     }
