@@ -45,7 +45,7 @@ fn measured(book: &mut Book, m: &ValuedMatch, amount: Amount)
 }
 
 // "14 Measure match, W, Q, M, S, F, A." "W kg 0..40,000,000,000"; "these five 0..10,000"; "Measure (prepaid)". It carries the kilograms over.
-#[tactic(auto, using(reached::specs::Needs::calls), unfolding(book::specs::Settlement::measure))]
+#[tactic(auto, unfolding(book::specs::Settlement::measure))]
 pub fn measure(month: &mut Month, number: u64, sample: &Sample) -> Result<u64, Refusal>
     ensures { outcome result month.new ≡ measure month.old number sample.now.weight sample.now.quality.heat sample.now.moisture sample.now.quality.sulphur sample.now.quality.volatiles sample.now.quality.ash }
 {

@@ -132,7 +132,7 @@ fn paid(book: &mut Book, m: &ValuedMatch, faults: Faults)
 }
 
 // "Pay (call 13) judges faults as Settle did, ends the match on a fault, and otherwise moves V into money held."
-#[tactic(auto, using(reached::specs::Needs::calls), unfolding(book::specs::Settlement::pay_match))]
+#[tactic(auto, unfolding(book::specs::Settlement::pay_match))]
 pub fn pay_match(month: &mut Month, number: u64) -> Result<u64, Refusal>
     ensures { outcome result month.new ≡ pay_match month.old number }
 {
@@ -154,7 +154,7 @@ pub fn pay_match(month: &mut Month, number: u64) -> Result<u64, Refusal>
 // ---- Hand over
 
 // "Hand over (call 17) takes a funded match, passes the receipts and pays the seller's 80%."
-#[tactic(auto, using(reached::specs::Needs::calls, payments::proofs::Money::handing_due), unfolding(book::specs::Settlement::hand_over))]
+#[tactic(auto, using(payments::proofs::Money::handing_due), unfolding(book::specs::Settlement::hand_over))]
 pub fn hand_over(month: &mut Month, number: u64) -> Result<u64, Refusal>
     ensures { outcome result month.new ≡ hand_over month.old number }
 {
