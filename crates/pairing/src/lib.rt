@@ -10,6 +10,7 @@ ghost use Rattle.book.specs.Answers.{outcome};
 use book::{Book, Match, Month, Receipt, Refusal, Side};
 
 // "freezes the seller's lowest-numbered free receipts, as many as the units or as there are"; it stops once none is left to freeze.
+// Counted by hand: behind a `filter` and `take` of `iter_mut` the loop knows the rows lent, but not the place of each in the table, by which the proof goes.
 fn freeze(lodged: &mut [Receipt], bonded: bool, seller: u64, number: u8, units: u16)
     ensures { lodged.new ≡ (iter (length lodged.old) 0 (freeze_turn bonded seller number) (record { receipts = lodged.old; left = units })).receipts }
 {
