@@ -4,7 +4,6 @@
 ghost use Rattle.std.specs.Prelude.{◌≡◌, ◌++◌, ◌+◌, ◌*◌, ◌≤◌, ◌<◌, ℕ, length, get_or};
 ghost use Rattle.book.specs.Answers.{answer_of};
 ghost use Rattle.book.specs.Codes.{stage_number};
-ghost use Rattle.book.specs.Lists.{Reached};
 ghost use Rattle.book.specs.Rows.{blank_account, blank_receipt, blank_match};
 ghost use Rattle.text.specs.Print.{digits};
 ghost use Rattle.text.specs.Printer.{HasRoom, Prints};
@@ -12,7 +11,7 @@ ghost use Rattle.text.specs.Page.{right, side_word, class_word, state_word};
 ghost use Rattle.text.specs.Page.{line, account_columns, receipt_columns, match_columns, count_columns};
 ghost use Rattle.text.specs.Page.{page_section, page, lent, page_answer};
 
-use book::{Account, Book, Match, Month, Receipt, ReceiptState, Refusal, Side, in_use};
+use book::{Account, Match, Month, Receipt, ReceiptState, Refusal, Side, in_use};
 use fields::{print_cash, print_number, print_spaces, print_word};
 use text::{Printer, Row, print_rows, stage_number};
 
@@ -132,13 +131,13 @@ fn print_section<T: Row<PageForm>>(printer: &mut Printer, word: &[u8], rows: &[T
     print_rows(printer, rows);
 }
 
-// The page of a book.
+// The page of a month's book.
 #[tactic(auto, using(text::proofs::Columns::few, crate::proofs::Fitting::fitting))]
-fn print_page(printer: &mut Printer, book: &Book)
-    requires reached { Reached book.now }
-    requires room { HasRoom printer.old (164 + 41 * (book.now.account_count + book.now.receipt_count + book.now.match_count)) }
-    ensures { Prints printer.old printer.new (page book.now) }
+fn print_page(printer: &mut Printer, month: &Month)
+    requires { HasRoom printer.old (164 + 41 * (month.now.account_count + month.now.receipt_count + month.now.match_count)) }
+    ensures { Prints printer.old printer.new (page month.now) }
 {
+    let book = &month.book;
     print_section(
         printer,
         b"accounts",
@@ -165,6 +164,6 @@ pub fn put_page(out: &mut [u8], month: &Month) -> Result<usize, Refusal>
         return Err(Refusal::BufferShort);
     }
     let mut printer = Printer::new(out);
-    print_page(&mut printer, book);
+    print_page(&mut printer, month);
     Ok(length)
 }
