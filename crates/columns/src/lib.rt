@@ -1,12 +1,12 @@
 // The ledger page for the wall printer: lines of 40 characters and a newline.
 #![tactic(auto)]
 
-ghost use Rattle.std.specs.Prelude.{◌≡◌, ◌++◌, ◌+◌, ◌*◌, ◌≤◌, ◌<◌, ℕ, length, get_or};
+ghost use Rattle.std.specs.Prelude.{◌≡◌, ◌++◌, ◌+◌, ◌*◌, ◌≤◌, ◌<◌, length, get_or};
 ghost use Rattle.book.specs.Answers.{answer_of};
 ghost use Rattle.book.specs.Codes.{stage_number};
 ghost use Rattle.book.specs.Rows.{blank_account, blank_receipt, blank_match};
 ghost use Rattle.text.specs.Print.{digits};
-ghost use Rattle.text.specs.Printer.{HasRoom, Prints};
+ghost use Rattle.text.specs.Printer.{AllFit, HasRoom, Prints};
 ghost use Rattle.text.specs.Page.{right, side_word, class_word, state_word};
 ghost use Rattle.text.specs.Page.{line, account_columns, receipt_columns, match_columns, count_columns};
 ghost use Rattle.text.specs.Page.{page_section, page, lent, page_answer};
@@ -123,7 +123,7 @@ fn print_count(printer: &mut Printer, word: &[u8], n: u64)
 fn print_section<T: Row<PageForm>>(printer: &mut Printer, word: &[u8], rows: &[T])
     requires room { HasRoom printer.old (41 + T.most * length rows.now) }
     requires short { length word.now ≤ 8 }
-    requires fits { (k : ℕ) → k < length rows.now → T.fits k (get_or rows.now k T.blank) }
+    requires fits { AllFit T.fits T.blank rows.now }
     ensures printed { Prints printer.old printer.new (page_section word.now (length rows.now) (λ k. T.line k (get_or rows.now k T.blank))) }
     ensures few { printer.new.at ≤ printer.old.at + 41 + T.most * length rows.now }
 {

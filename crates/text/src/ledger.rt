@@ -1,8 +1,8 @@
 // The ledger of a book: its accounts, receipts and matches, each section after its count, then the fund.
-ghost use Rattle.std.specs.Prelude.{◌≡◌, ⊤, ℕ, ◌+◌, ◌*◌, ◌≤◌, ◌<◌, length, get_or};
+ghost use Rattle.std.specs.Prelude.{◌≡◌, ⊤, ◌+◌, ◌*◌, ◌≤◌, length, get_or};
 ghost use Rattle.book.specs.Codes.{side_number, class_number, state_number, stage_number};
 ghost use Rattle.book.specs.Rows.{blank_account, blank_receipt, blank_match};
-ghost use Rattle.text.specs.Printer.{HasRoom, Prints};
+ghost use Rattle.text.specs.Printer.{AllFit, HasRoom, Prints};
 ghost use Rattle.text.specs.Ledger.{account_line, receipt_line, match_line, section, ledger};
 
 use crate::print::Printer;
@@ -102,7 +102,7 @@ impl Row<LedgerForm> for Match {
 // A section of the ledger.
 fn print_section<T: Row<LedgerForm>>(printer: &mut Printer, word: &[u8], rows: &[T])
     requires room { HasRoom printer.old (length word.now + 22 + T.most * length rows.now) }
-    requires fits { (k : ℕ) → k < length rows.now → T.fits k (get_or rows.now k T.blank) }
+    requires fits { AllFit T.fits T.blank rows.now }
     ensures printed { Prints printer.old printer.new (section word.now (length rows.now) (λ k. T.line k (get_or rows.now k T.blank))) }
     ensures few { printer.new.at ≤ printer.old.at + length word.now + 22 + T.most * length rows.now }
 {

@@ -1,7 +1,7 @@
 // The rows of a table, printed one after the other.
-ghost use Rattle.std.specs.Prelude.{List, ℕ, ◌+◌, ◌*◌, ◌<◌, ◌≤◌, length, get_or};
+ghost use Rattle.std.specs.Prelude.{List, ℕ, ◌+◌, ◌*◌, ◌≤◌, length, get_or};
 ghost use Rattle.text.specs.Ledger.{each};
-ghost use Rattle.text.specs.Printer.{HasRoom, Prints};
+ghost use Rattle.text.specs.Printer.{AllFit, HasRoom, Prints};
 
 use crate::print::Printer;
 
@@ -28,7 +28,7 @@ pub trait Row<Form> {
 
 pub fn print_rows<Form, T: Row<Form>>(printer: &mut Printer, rows: &[T])
     requires room { HasRoom printer.old (T.most * length rows.now) }
-    requires fits { (k : ℕ) → k < length rows.now → T.fits k (get_or rows.now k T.blank) }
+    requires fits { AllFit T.fits T.blank rows.now }
     ensures printed { Prints printer.old printer.new (each (length rows.now) 0 (λ k. T.line k (get_or rows.now k T.blank))) }
     ensures few { printer.new.at ≤ printer.old.at + T.most * length rows.now }
 {
