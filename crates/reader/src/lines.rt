@@ -4,12 +4,23 @@ ghost use Rattle.std.specs.List.{position};
 ghost use Rattle.reader.specs.Lines.{line_length, call_of, line_of, opening_of, opening_line_of};
 
 use crate::numbers::read_numbers;
-use book::{Call, Opening};
+use book::{Call, Opening, Refusal};
 use coal::{Quality, Sample};
 
 // "a line not of the form"
 #[derive(Clone, Copy, PartialEq, Eq)]
 pub struct BadLine;
+
+// "26 a line not of the form"
+impl From<BadLine> for Refusal {
+    ghost use Rattle.book.specs.declared.refusals.Refusal.TheVariants.{BadLine as bad_line};
+
+    ghost from_gives = { λ _ e. e ≡ bad_line };
+
+    fn from(_line: BadLine) -> Refusal {
+        Refusal::BadLine
+    }
+}
 
 // The place of the first newline.
 fn newline(text: &[u8]) -> Option<usize>

@@ -27,13 +27,9 @@ fn push(numbers: &mut ArrayVec<u64, 8>, number: Option<u64>) -> Result<(), BadLi
     ensures ok { OnOk result (IfSome number (λ x. (array_vec_len numbers.old < 8) × (numbers.new.items ≡ numbers.old.items ++ x ∷ [])) × IsSome number) }
     ensures bad { OnErr result (IsNone number ⊎ (array_vec_len numbers.old ≡ 8)) }
 {
-    match number {
-        Some(value) if !numbers.is_full() => {
-            numbers.push(value);
-            Ok(())
-        }
-        _ => Err(BadLine),
-    }
+    numbers
+        .try_push(number.ok_or(BadLine)?)
+        .map_err(|_| BadLine)
 }
 
 // The numbers of a line; "lines ended by one newline .. one space between".

@@ -15,21 +15,16 @@ use text::Printer;
 fn reply(month: &mut Month, line: &[u8]) -> Result<u64, Refusal>
     ensures { outcome result month.new ≡ reply month.old (line_of line.now) }
 {
-    let Ok(call) = reader::read_line(line) else {
-        return Err(Refusal::BadLine);
-    };
+    let call = reader::read_line(line)?;
     calls::apply(month, call)
 }
 
-// The calls of the lines of a text. It and `print_run` are three lines in the same loop: one of both over a closure would have to say where in a fold each answer lies, and over an optional printer, in each clause, whether there is one.
+// The calls of the lines of a text. It and `print_run` are one line in the same loop: one of both over a closure would have to say where in a fold each answer lies, and over an optional printer, in each clause, whether there is one.
 pub fn run(month: &mut Month, text: &[u8])
     ensures { month.new ≡ after month.old (calls_of (lines text.now)) }
 {
-    let mut rest = text;
-    while !rest.is_empty() {
-        let (line, later) = rest.split_at(reader::line_length(rest));
+    for line in text.split_inclusive(|b| *b == b'\n') {
         let _ = reply(month, line);
-        rest = later;
     }
 }
 
@@ -40,10 +35,7 @@ pub fn print_run(month: &mut Month, text: &[u8], printer: &mut Printer)
     ensures answers { Prints printer.old printer.new (answers month.old (lines text.now)) }
     ensures room { printer.new.at ≤ printer.old.at + 12 * length text.now }
 {
-    let mut rest = text;
-    while !rest.is_empty() {
-        let (line, later) = rest.split_at(reader::line_length(rest));
+    for line in text.split_inclusive(|b| *b == b'\n') {
         printer.answer(reply(month, line));
-        rest = later;
     }
 }

@@ -24,9 +24,7 @@ fn line_one(input: &[u8]) -> Result<Month, Refusal>
         return Err(Refusal::BadLine);
     }
     let line = &input[..reader::line_length(input)];
-    let Ok(terms) = reader::read_opening(line) else {
-        return Err(Refusal::BadLine);
-    };
+    let terms = reader::read_opening(line)?;
     accounts::opening(&terms)
 }
 

@@ -1,14 +1,37 @@
-use Rattle.std.proofs.Common.{rules}
-use Rattle.running.proofs.Running.{led_all, printed_on, printed_all}
+use Rattle.std.proofs.Common.{rules, tests, refl, ap, ◌∙◌, arith}
+use Rattle.std.specs.Slice.Iter.{split_inclusive_rest, split_inclusive_callee}
+use Rattle.running.proofs.Running.{gives_lines, next_line, no_line, led_all, printed_on, printed_all}
 use Rattle.running.proofs.print_run.Goals as goal
 
-pub loop-rest-preserved : goal.loop-rest-preserved
-loop-rest-preserved c =
+pub loop-line-init : goal.loop-line-init
+loop-line-init c =
+    let cut = c.split_inclusive-line-items.ensures in
+    let same = c.into_iter-line-iterator.ensures.into_iter_gives in
+    (
+      c.args.text.now,
+      gives_lines _ _ (ap split_inclusive_rest same ∙ cut.rest) (ap split_inclusive_callee same ∙ cut.closure) (λ x r q k. search (rules, tests)),
+      record { led = record { same = refl }; room = omega arith; long = refl; on = λ z p. p },
+    )
+
+pub answer-requires : goal.answer-requires
+answer-requires c =
+    let i = c.loop-line.invariant in
+    let m = next_line {t = c.next.new.self} i.0 i.1 c.in-Some.line c.in-Some.ensures.steps in
+    omega (arith, c.requires, i.2.room, i.2.long, m.0)
+
+pub loop-line-preserved : goal.loop-line-preserved
+loop-line-preserved c =
+    let i = c.loop-line.invariant in
+    let m = next_line i.0 i.1 c.in-Some.line c.in-Some.ensures.steps in
     let answer = c.answer.ensures in
-    printed_on (search rules) (search rules) (search rules) c.loop-rest.invariant _ c.reply.ensures answer.printed answer.few
+    (_, m.2, printed_on m.0 m.1 refl i.2 _ c.reply.ensures answer.printed answer.few)
 
 pub returns-clause-book : goal.returns-clause-book
-returns-clause-book c = led_all c.loop-rest.invariant.led (search rules)
+returns-clause-book c =
+    let i = c.loop-line.invariant in
+    led_all i.2.led (no_line i.0 i.1 c.in-None.ensures.steps)
 
 pub returns-clause-answers : goal.returns-clause-answers
-returns-clause-answers c = printed_all c.loop-rest.invariant (search rules)
+returns-clause-answers c =
+    let i = c.loop-line.invariant in
+    printed_all i.2 (no_line i.0 i.1 c.in-None.ensures.steps)

@@ -1,10 +1,9 @@
--- The loop goes line by line; the measure is how many bytes are to come. Assumes nothing.
-use Rattle.std.proofs.Common.{length}
+-- The lines to come are those of a rest of the text. Assumes nothing.
+use Rattle.std.proofs.Common.{List, ℕ}
+use Rattle.std.proofs.lemmas.Iterator.{YieldsList}
+use Rattle.reader.specs.Lines.{lines}
 use Rattle.running.proofs.Running.{Printed}
 use Rattle.running.proofs.print_run.Given as goal
 
-abbrev pub invariant-loop-rest : goal.invariant-loop-rest
-invariant-loop-rest l = Printed l.text l.initial.month l.initial.printer l.rest l.month l.printer
-
-abbrev pub decreases-loop-rest : goal.decreases-loop-rest
-decreases-loop-rest l = length l.rest
+abbrev pub invariant-loop-line : goal.invariant-loop-line
+invariant-loop-line l = (rest : List ℕ) × YieldsList goal.iterator-loop-line.next_gives (λ x. x.now) l.line-iterator (lines rest) × Printed l.text l.initial.month l.initial.printer rest l.month l.printer
