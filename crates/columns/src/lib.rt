@@ -15,6 +15,7 @@ use book::{Account, Match, Month, Receipt, ReceiptState, Refusal, Side, in_use};
 use fields::{print_cash, print_number, print_spaces, print_word};
 use text::{Printer, Row, print_rows, stage_number};
 
+// Words as bytes and no `Display`: a `Printer` has no `write!` (text/print.rt).
 fn side_word(side: Side) -> &'static [u8]
     ensures word { result.now ≡ side_word side }
     ensures fits { length result.now ≤ 7 }
@@ -119,7 +120,7 @@ fn print_count(printer: &mut Printer, word: &[u8], n: u64)
     printer.byte(b'\n');
 }
 
-// A section of the page.
+// A section of the page: as `text`'s, with the padded count line.
 fn print_section<T: Row<PageForm>>(printer: &mut Printer, word: &[u8], rows: &[T])
     requires room { HasRoom printer.old (41 + T.most * length rows.now) }
     requires short { length word.now ≤ 8 }

@@ -1,4 +1,4 @@
-// The session program: standard input is the session, standard output its answers and its ledger. `page` and `heat_table` differ in what is printed, which is most of each.
+// The session program: standard input is the session, standard output its answers and its ledger. `page` is the same five lines with another buffer and `session::page`; one function of both would take the call as a closure (page/main.rt).
 #![tactic(auto)]
 
 use std::io;

@@ -1,4 +1,4 @@
-// The fields of the ledger page: words, numbers and cash, each aligned on the right in its width.
+// The fields of the ledger page: words, numbers and cash, each aligned on the right in its width; by a `Printer`, so no `{:>width}`.
 #![tactic(auto)]
 
 ghost use Rattle.std.specs.Prelude.{◌≡◌, ◌++◌, ◌+◌, ◌^◌, ◌≤◌, ◌<◌, length};
@@ -29,7 +29,7 @@ pub fn print_word(printer: &mut Printer, width: usize, word: &[u8])
     printer.bytes(word);
 }
 
-// How many digits a number has.
+// How many digits a number has. `ilog10` speaks of powers, `digits` of divisions: the recursion is the definition's.
 #[tactic(auto, using(text::proofs::Printing::digits_one, text::proofs::Printing::digits_longer, text::proofs::Printing::digits_64))]
 fn digit_count(n: u64) -> usize
     ensures count { result ≡ length (digits n) }

@@ -1,4 +1,4 @@
-// The page program: standard input is a session, standard output the ledger page of the book after it. It differs from `delivery` in what is printed, which is most of it.
+// The page program: standard input is a session, standard output the ledger page of the book after it. The same five lines as `delivery`, with another buffer and `session::page`: one function of both would take the call as a closure, with clauses on where it may be called and how much it writes.
 #![tactic(auto)]
 
 use std::io;

@@ -18,7 +18,7 @@ fn read_file(rt: &HostRuntime, name: &str, most: u64) -> io::Result<Vec<u8>> {
     Ok(bytes)
 }
 
-// A file's first bytes; one that cannot be read has none, and its session differs: the run goes on.
+// A file's first bytes; one that cannot be read has none, and counts as empty: the run goes on.
 fn load(rt: &HostRuntime, name: &str, most: u64) -> Vec<u8> {
     match read_file(rt, name, most) {
         Ok(bytes) => bytes,

@@ -6,8 +6,7 @@ use Rattle.running.proofs.print_run.Goals as goal
 pub loop-line-init : goal.loop-line-init
 loop-line-init c =
     let cut = c.split_inclusive-line-items.ensures in
-    let same = c.into_iter-line-iterator.ensures.into_iter_gives in
-    (
+    let same = c.into_iter-line-iterator.ensures.into_iter_gives in (
       c.args.text.now,
       gives_lines _ _ (ap split_inclusive_rest same ∙ cut.rest) (ap split_inclusive_callee same ∙ cut.closure) (λ x r q k. search (rules, tests)),
       record { led = record { same = refl }; room = omega arith; long = refl; on = λ z p. p },
