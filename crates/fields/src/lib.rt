@@ -6,7 +6,7 @@ ghost use Rattle.text.specs.Print.{digits, with_sign};
 ghost use Rattle.text.specs.Printer.{HasRoom, Prints};
 ghost use Rattle.text.specs.Page.{spaces, right, yuan};
 
-use text::Printer;
+use text::{Printer, decimal};
 
 pub fn print_spaces(printer: &mut Printer, n: usize)
     requires { HasRoom printer.old n }
@@ -29,15 +29,6 @@ pub fn print_word(printer: &mut Printer, width: usize, word: &[u8])
     printer.bytes(word);
 }
 
-// How many digits a number has. `ilog10` speaks of powers, `digits` of divisions: the recursion is the definition's.
-#[tactic(auto, using(text::proofs::Printing::digits_one, text::proofs::Printing::digits_longer, text::proofs::Printing::digits_64))]
-fn digit_count(n: u64) -> usize
-    ensures count { result ≡ length (digits n) }
-    ensures few { result ≤ 20 }
-{
-    if n < 10 { 1 } else { 1 + digit_count(n / 10) }
-}
-
 // A number in a field that is wide enough for it.
 #[tactic(auto, using(text::proofs::Columns::digits_within))]
 pub fn print_number(printer: &mut Printer, width: usize, n: u64)
@@ -47,8 +38,8 @@ pub fn print_number(printer: &mut Printer, width: usize, n: u64)
     ensures printed { Prints printer.old printer.new (right width (digits n)) }
     ensures wide { printer.new.at ≡ printer.old.at + width }
 {
-    print_spaces(printer, width - digit_count(n));
-    printer.digits(n);
+    let mut buffer = itoa::Buffer::new();
+    print_word(printer, width, decimal(&mut buffer, n));
 }
 
 // Fen in yuan with two decimals, after a sign.
@@ -59,10 +50,11 @@ fn print_yuan(printer: &mut Printer, sign: &[u8], fen: u64)
     ensures printed { Prints printer.old printer.new (right 22 (sign.now ++ yuan fen)) }
     ensures wide { printer.new.at ≡ printer.old.at + 22 }
 {
-    let yuan = fen / 100;
-    print_spaces(printer, 19 - sign.len() - digit_count(yuan));
+    let mut buffer = itoa::Buffer::new();
+    let yuan = decimal(&mut buffer, fen / 100);
+    print_spaces(printer, 19 - sign.len() - yuan.len());
     printer.bytes(sign);
-    printer.digits(yuan);
+    printer.bytes(yuan);
     printer.byte(b'.');
     printer.last_digit(fen / 10);
     printer.last_digit(fen);

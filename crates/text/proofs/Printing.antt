@@ -12,6 +12,8 @@ use Rattle.std.proofs.lemmas.Slice.{take-put_mid, drop-put_mid}
 use lib.ListN.{length, take, drop, get_or, set, length-append}
 use lib.Seq.{take-suc, take-suc-set, drop-drop}
 use borrow.Author.Tests.{lt-ltb, le-ltb}
+use Rattle.std.proofs.lemmas.Fmt.{decimal_by_steps}
+use Rattle.std.specs.Fmt.{decimal}
 use Rattle.coal.specs.Choice.{pick}
 use Rattle.book.proofs.laws.Counting.{by_pick}
 use Rattle.text.specs.Print.{Put, last_digits, digits, spaced}
@@ -83,17 +85,14 @@ digits_short (suc k) n h =
 pub digits_64 : (n : ℕ) → n < 2 ^ 64 → length (digits n) ≤ 20
 digits_64 n h = digits_short 19 n (omega arith)
 
-pub digits_one : (n : ℕ) → n < 10 → length (digits n) ≡ 1
-digits_one n g = rw (digits_step n, lt-ltb n 10 g)
+-- the library's decimal text of a number
+pub digits_decimal : (n : ℕ) → n < 2 ^ 64 → digits n ≡ decimal n
+digits_decimal n h = decimal_by_steps (λ m l. digits m ≡ l)
+    (λ m g. let same : 48 + m % 10 ≡ 48 + m = omega arith in rw (digits_step m, lt-ltb m 10 g, same) refl)
+    (λ m l g e. rw (digits_step m, le-ltb m 10 g, e) refl) n h
 
 pub digits_longer : (n : ℕ) → 10 ≤ n → length (digits n) ≡ length (digits (n / 10)) + 1
 digits_longer n g = rw (digits_step n, le-ltb n 10 g, length-append)
-
-pub put_small : {a b : List ℕ} {i j d n : ℕ} → n < 10 → d ≡ 48 + n % 10 → Put a b i j (d ∷ []) → Put a b i j (digits n)
-put_small {n = n} g e p = rw (digits_step n, lt-ltb n 10 g, ← e) p
-
-pub put_more : {a b c : List ℕ} {i j k d n : ℕ} → 10 ≤ n → d ≡ 48 + n % 10 → Put a b i j (digits (n / 10)) → Put b c j k (d ∷ []) → Put a c i k (digits n)
-put_more {n = n} g e p q = rw (digits_step n, le-ltb n 10 g, ← e) (put_then p q)
 
 -- ---- numbers with a space before each
 

@@ -13,26 +13,13 @@ pub struct Printer<'a> {
     pub at: usize,
 }
 
-// The last digit of a number.
-fn last_digit(n: u64) -> u8
-    ensures { result ≡ 48 + n % 10 }
+// A number's digits, in a lent buffer.
+#[tactic(auto, using(crate::proofs::Printing::digits_decimal))]
+pub fn decimal(buffer: &mut itoa::Buffer, n: u64) -> &[u8]
+    ensures text { result.now ≡ digits n }
+    ensures few { length result.now ≤ 20 }
 {
-    b'0' + (n % 10) as u8
-}
-
-// A number's digits. The buffer and the place are apart here alone: kept in a printer, the place would be stored and loaded again at each digit, and an answer take half as long again.
-#[tactic(auto, using(crate::proofs::Printing::digits_one, crate::proofs::Printing::digits_longer))]
-fn put_digits(out: &mut [u8], at: usize, n: u64) -> usize
-    requires { at + length (digits n) ≤ length out.old }
-    ensures { Put out.old out.new at result (digits n) }
-{
-    if n < 10 {
-        out[at] = last_digit(n);
-        return at + 1;
-    }
-    let place = put_digits(out, at, n / 10);
-    out[place] = last_digit(n);
-    place + 1
+    buffer.format(n).as_bytes()
 }
 
 impl<'a> Printer<'a> {
@@ -67,7 +54,7 @@ impl<'a> Printer<'a> {
         requires { HasRoom self.old 1 }
         ensures { Prints self.old self.new ((48 + n % 10) ∷ []) }
     {
-        self.byte(last_digit(n));
+        self.byte(b'0' + (n % 10) as u8);
     }
 
     // A number's digits, with room for just these.
@@ -75,7 +62,8 @@ impl<'a> Printer<'a> {
         requires { HasRoom self.old (length (digits n)) }
         ensures { Prints self.old self.new (digits n) }
     {
-        self.at = put_digits(self.out, self.at, n);
+        let mut buffer = itoa::Buffer::new();
+        self.bytes(decimal(&mut buffer, n));
     }
 
     // The same with room for any number: what is left to show at a call is arithmetic.
