@@ -9,8 +9,6 @@ const TABLE: usize = 18_711;
 
 fn main(rt: HostRuntime) -> io::Result<()> {
     let mut out = filling::buffer::<TABLE>();
-    let mut printer = Printer::new(&mut out);
-    heat_text::print_table(&mut printer);
-    let r = printer.at;
-    rt.write_all(&out[..r])
+    heat_text::print_table(&mut Printer::new(&mut out));
+    rt.write_all(&out)
 }

@@ -80,7 +80,7 @@ pub fn take_offer(month: &mut Month, buyer: u64, seller: u64) -> Result<u64, Ref
     if Book::TAKE_MATCHES <= number {
         return Err(Refusal::TakesFull);
     }
-    pair(&mut month.book, false, 2, buyer as u8, seller as u8, units);
+    pair(&mut month.book, false, 2, i as u8, j as u8, units);
     month.book.accounts[j].offer = None;
     Ok(number as u64)
 }
