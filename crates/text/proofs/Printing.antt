@@ -7,10 +7,10 @@ use mathlib.Core.Path.{◌≡◌, refl, sym, ◌∙◌}
 use mathlib.Core.List.{List, [], ◌∷◌, ◌++◌, append_assoc, append-nil}
 use lib.Dec.{ltb}
 use borrow.Rule.Slice.PartMut.{put_mid}
-use Rattle.std.proofs.lemmas.List.{drop-set-lt, get_or-take, length-take, length-drop}
+use Rattle.std.proofs.lemmas.List.{get_or-take, length-take, length-drop}
 use Rattle.std.proofs.lemmas.Slice.{take-put_mid, drop-put_mid}
-use lib.ListN.{length, take, drop, get_or, set, length-append}
-use lib.Seq.{take-suc, take-suc-set, drop-drop}
+use lib.ListN.{length, take, drop, get_or, length-append}
+use lib.Seq.{take-suc, drop-drop}
 use borrow.Author.Tests.{lt-ltb, le-ltb}
 use Rattle.std.proofs.lemmas.Fmt.{decimal_by_steps}
 use Rattle.std.specs.Fmt.{decimal}
@@ -35,10 +35,6 @@ put_then {a} {b} {c} {x} {y} {i} {j} {k} p q =
 -- nothing is written
 pub put_none : (a : List ℕ) (i : ℕ) → Put a a i i []
 put_none a i = record { next = omega arith; text = sym (append-nil (take i a)); kept = refl }
-
--- a byte is set
-pub put_set : (a : List ℕ) (i d : ℕ) → i < length a → Put a (set a i d) i (i + 1) (d ∷ [])
-put_set a i d h = record { next = omega arith; text = rw (add-one i) (take-suc-set a i d h); kept = drop-set-lt (i + 1) a i d (omega arith) }
 
 -- a part is overwritten with just as many bytes
 module _ (a : List ℕ) (i k : ℕ) (x y : List ℕ) (e : y ≡ x) (l : length x ≡ k) (h : i + k ≤ length a) where
