@@ -15,7 +15,10 @@ use text::Printer;
 fn reply(month: &mut Month, line: &[u8]) -> Result<u64, Refusal>
     ensures { outcome result month.new ≡ reply month.old (line_of line.now) }
 {
-    let call = reader::read_line(line)?;
+    // Taken apart by `let .. else`, as document 01 names the form.
+    let Ok(call) = reader::read_line(line) else {
+        return Err(Refusal::BadLine);
+    };
     calls::apply(month, call)
 }
 
