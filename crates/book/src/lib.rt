@@ -1,5 +1,5 @@
 // The delivery book of one contract month: its types, what one row of a table is asked and how it changes, and the empty book.
-// A number is cast by `as`, here and above, and proved to lose nothing: `u64::from` has no form for `usize`, and `try_from` would add a case that never comes.
+// Numbers are cast by `as`, one form for all, each proved to lose nothing: `u64::from` has none for `usize`, and `try_from` would add a case that never comes.
 #![tactic(auto)]
 
 pub mod accounts;

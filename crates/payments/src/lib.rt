@@ -29,7 +29,7 @@ pub fn value(m: &Match, tonnes: u64) -> Amount
 }
 
 // An amount is paid to an account; `Room n` says how many payments are to come, another number at each call, and `small` what is true of every amount, to callers that read no field of it.
-// No type of an account's numbers, below 32: rows of any book would hold it, and Day, Join and the test of Close are promised of any book. It and `charge` are a line each: one function of both is no shorter.
+// No type of an account's numbers, below 32: rows of any book would hold it, and Day, Join and the test of Close are promised of any book. It and `charge` are a line each: one function of both is no shorter; account and amount in one struct would be taken apart at once.
 #[tactic(auto, using(crate::proofs::Money::room_cash), unfolding(book::specs::Tables::pay))]
 pub fn pay(book: &mut Book, account: u8, amount: Amount)
     requires account_bound { account < 32 }

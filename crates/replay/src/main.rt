@@ -11,7 +11,7 @@ const INPUT: u64 = 65_537;
 // Room for the output of every session.
 const OUTPUT: usize = 848_427;
 
-// A file's first bytes, as many as `most`: a `Vec`, as a file's length is known only when it is read; the programs that hold no heap read into a buffer.
+// A file's first bytes, as many as `most`: a `Vec`, as a file's length is known only when it is read; the programs that hold no heap read into a buffer. The handle goes before the name, as in std's `File::open`.
 fn read_file(rt: &HostRuntime, name: &str, most: u64) -> io::Result<Vec<u8>> {
     let mut bytes = Vec::new(rt.alloc());
     File::open(rt, name)?.take(most).read_to_end(&mut bytes)?;

@@ -168,7 +168,7 @@ pub fn hand_over(month: &mut Month, number: u64) -> Result<u64, Refusal>
 
 // ---- Invoice
 
-// "15 Invoice match." "Invoice (held): the money held goes to the seller; closed."
+// "15 Invoice match." "Invoice (held): the money held goes to the seller; closed." No `ValuedMatch`: only what is held is paid; the row is copied, since the payment changes the book.
 #[tactic(auto, using(reached::specs::Needs::calls), unfolding(book::specs::Settlement::invoice))]
 pub fn invoice(month: &mut Month, number: u64) -> Result<u64, Refusal>
     ensures { outcome result month.new ≡ invoice month.old number }

@@ -81,6 +81,9 @@ digits_short (suc k) n h =
 pub digits_64 : (n : ℕ) → n < 2 ^ 64 → length (digits n) ≤ 20
 digits_64 n h = digits_short 19 n (omega arith)
 
+pub digits_small : (n : ℕ) → n < 10 → digits n ≡ (48 + n % 10) ∷ []
+digits_small n h = rw (digits_step n, lt-ltb n 10 h) refl
+
 -- the library's decimal text of a number
 pub digits_decimal : (n : ℕ) → n < 2 ^ 64 → digits n ≡ decimal n
 digits_decimal n h = decimal_by_steps (λ m l. digits m ≡ l)

@@ -57,11 +57,16 @@ impl<'a> Printer<'a> {
         self.byte(b'0' + (n % 10) as u8);
     }
 
-    // A number's digits, with room for just these.
+    // A number's digits, with room for just these; most are of one, which is written as it is.
+    #[tactic(auto, using(crate::proofs::Printing::digits_small))]
     pub fn digits(&mut self, n: u64)
         requires { HasRoom self.old (length (digits n)) }
         ensures { Prints self.old self.new (digits n) }
     {
+        if n < 10 {
+            self.last_digit(n);
+            return;
+        }
         let mut buffer = itoa::Buffer::new();
         self.bytes(decimal(&mut buffer, n));
     }

@@ -26,6 +26,7 @@ pub trait Row<Form> {
         ensures few { printer.new.at ≤ printer.old.at + most };
 }
 
+// The rows of a table, one after the other: what it asks of them, a section asks as well and hands on.
 pub fn print_rows<Form, T: Row<Form>>(printer: &mut Printer, rows: &[T])
     requires room { HasRoom printer.old (T.most * length rows.now) }
     requires fits { AllFit T.fits T.blank rows.now }

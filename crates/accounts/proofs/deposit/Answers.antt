@@ -1,3 +1,4 @@
+-- Within the crate's tactic the search does not find the bound of the sum. Assumes nothing.
 use Rattle.reached.specs.Needs.{calls, kept}
 use Rattle.book.specs.declared.calls.Call.{Call}
 use Rattle.book.specs.Calls.{step}

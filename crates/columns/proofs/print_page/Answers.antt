@@ -1,3 +1,4 @@
+-- The sections one after the other, each by its rows in use. Assumes nothing.
 use Rattle.book.specs.Rows.{blank_account, blank_receipt, blank_match}
 use Rattle.text.specs.Text.{bytes}
 use Rattle.text.specs.Page.{line, account_columns, receipt_columns, match_columns, count_columns, account_entry, receipt_entry, match_entry, page}

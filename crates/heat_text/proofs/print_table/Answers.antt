@@ -1,3 +1,4 @@
+-- With these lemmas in `using` the search finds no proof. Assumes nothing.
 use Rattle.heat_text.proofs.Lines.{table_printed, table_next}
 use Rattle.heat_text.proofs.print_table.Goals as goal
 

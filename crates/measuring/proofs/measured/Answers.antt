@@ -1,4 +1,4 @@
--- After both payments there is room for the third. Assumes nothing.
+-- After both payments there is room for the third; not in `using`, where the record `Room` is taken apart. Assumes nothing.
 use Rattle.std.proofs.Common.{rules}
 use Rattle.payments.proofs.Money.{money}
 use Rattle.measuring.proofs.measured.Goals as goal

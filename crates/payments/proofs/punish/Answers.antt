@@ -1,4 +1,4 @@
--- After the first penalty there is room for the second. Assumes nothing.
+-- After the first penalty there is room for the second; not in `using`, where the record `Room` is taken apart. Assumes nothing.
 use Rattle.std.proofs.Common.{rules}
 use Rattle.payments.proofs.Money.{money}
 use Rattle.payments.proofs.punish.Goals as goal

@@ -1,3 +1,4 @@
+-- The sections one after the other, each by its rows in use. Assumes nothing.
 use Rattle.book.specs.Rows.{blank_account, blank_receipt, blank_match}
 use Rattle.text.specs.Text.{bytes}
 use Rattle.text.specs.Ledger.{heading, account_line, receipt_line, match_line, account_row, receipt_row, match_row, ledger}

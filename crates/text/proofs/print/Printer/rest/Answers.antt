@@ -1,3 +1,4 @@
+-- One number more. Assumes nothing.
 use Rattle.std.proofs.Common.{arith}
 use Rattle.text.proofs.Printing.{spaced_more}
 use Rattle.text.proofs.print.Printer.rest.Goals as goal
