@@ -2,7 +2,7 @@
 ghost use Rattle.std.specs.Prelude.{◌≡◌, ◌≤◌, ◌+◌, ◌-◌, ltb, nat_abs, pos};
 ghost use Rattle.std.specs.Int.Signed.{lt_z};
 ghost use Rattle.coal.specs.Choice.{pick};
-ghost use Rattle.book.specs.Rows.{blank_account, is_on, needs_fifth, lots_on, lot_off, lots_off, credited, debited, units_on, units_off};
+ghost use Rattle.book.specs.Rows.{is_on, needs_fifth, lots_on, lot_off, lots_off, credited, debited, units_on, units_off};
 ghost use Rattle.book.specs.Accounts.{joined_account};
 
 use crate::amounts::Amount;

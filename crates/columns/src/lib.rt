@@ -1,13 +1,12 @@
 // The ledger page for the wall printer: lines of 40 characters and a newline.
 #![tactic(auto)]
 
-ghost use Rattle.std.specs.Prelude.{◌≡◌, ◌++◌, ◌+◌, ◌*◌, ◌≤◌, ◌<◌, length, get_or};
+ghost use Rattle.std.specs.Prelude.{◌≡◌, ◌+◌, ◌*◌, ◌≤◌, ◌<◌, length, get_or};
 ghost use Rattle.book.specs.Answers.{answer_of};
 ghost use Rattle.book.specs.Codes.{stage_number};
 ghost use Rattle.book.specs.Rows.{blank_account, blank_receipt, blank_match};
-ghost use Rattle.text.specs.Print.{digits};
 ghost use Rattle.text.specs.Printer.{AllFit, HasRoom, Prints};
-ghost use Rattle.text.specs.Page.{right, side_word, class_word, state_word};
+ghost use Rattle.text.specs.Page.{side_word, class_word, state_word};
 ghost use Rattle.text.specs.Page.{line, account_columns, receipt_columns, match_columns, count_columns};
 ghost use Rattle.text.specs.Page.{page_section, page, lent, page_answer};
 

@@ -1,7 +1,7 @@
 // The heat table, printed: one decimal number to a line, lowest heat first.
 #![tactic(auto)]
 
-ghost use Rattle.std.specs.Prelude.{◌≡◌, ◌+◌, ◌<◌, ◌≤◌, ◌^◌, length};
+ghost use Rattle.std.specs.Prelude.{◌≡◌, ◌+◌, ◌<◌, ◌^◌};
 ghost use Rattle.text.specs.Print.{digits};
 ghost use Rattle.text.specs.Printer.{HasRoom, Prints};
 ghost use Rattle.text.specs.Page.{line};

@@ -23,7 +23,7 @@ begun kind t r p e = rw (ap (λ (o : Outcome). o.book) e) (opened kind t r p (rw
 pub left_by : {b b' : Book} (r : Result ℕ Refusal) (c : Call) → Reached b → outcome r b' ≡ step b c → Reached b'
 left_by r c h e = rw (ap (λ (o : Outcome). o.book) e) (called c h)
 
--- what an accepted call leaves is reached: each call's `invariant_of-month` is this, with its name
+-- what an accepted call leaves is reached: an answer `invariant_of-month` is mostly this, with the call's name
 pub kept : {b b' : Book} (n : ℕ) (c : Call) → Reached b → accept n b' ≡ step b c → Reached b'
 kept n c r e = left_by (Ok n) c r e
 

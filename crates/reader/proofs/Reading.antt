@@ -11,6 +11,7 @@ use lib.ListN.{length, get_or, take, drop, drop_of_length-le, length-append, tak
 use lib.Seq.{drop-cons, get_or-append_seam}
 use Rattle.std.specs.Prelude.{Option, None, Some, Result, Ok, Err, OnErr, IfSome, IsSome}
 use Rattle.std.specs.Result.{IsErr}
+use Rattle.std.proofs.lemmas.List.{nil_from_length}
 use Rattle.std.proofs.lemmas.Result.{MatchResult-from_err}
 use Rattle.std.proofs.lemmas.Bool.Decides.{nat_tests}
 use Rattle.std.proofs.Common.{rules}
@@ -85,10 +86,6 @@ not_ended None d v ns r o = grind (arith, nat_tests, r)
 not_ended (Some y) d v ns r (inl f) = cc
 not_ended (Some y) d v ns r (inr h) = grind (arith, nat_tests, h)
 
-empty : (s : List ℕ) → length s ≡ 0 → s ≡ []
-empty [] h = refl
-empty (b ∷ s) h = absurd (omega arith)
-
 -- a line that does not end with a newline
 unended : (s : List ℕ) (d v : ℕ) (ns : List ℕ) → ((t : List ℕ) → s ≡ t ++ (10 ∷ []) → ⊥) → numbers_on s d v ns ≡ []
 unfolding numbers_on
@@ -98,7 +95,7 @@ unended (b ∷ s) d v ns h =
     let last : b ≡ 10 → s ≡ [] → ⊥ = λ e f. h [] (cc) in
     let digit = unended s (d + 1) (v * 10 + (b - 48)) ns k in
     let space = unended s 0 0 (ns ++ (v ∷ [])) k in
-    let none = empty s in
+    let none = nil_from_length s in
     grind (arith, nat_tests, last, digit, space, none)
 
 -- how a choice was made

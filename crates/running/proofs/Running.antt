@@ -1,12 +1,11 @@
 -- A session line by line: what one line adds to the output, to the calls and to the room that is used. Assumes nothing.
-use Rattle.std.specs.Prelude.{◌≡◌, List, [], ◌∷◌, ℕ, ◌+◌, ◌*◌, ◌≤◌, ◌<◌, length, take, drop, Result, Ok, Err}
+use Rattle.std.specs.Prelude.{◌≡◌, List, [], ◌∷◌, ◌++◌, ℕ, ◌+◌, ◌*◌, ◌≤◌, ◌<◌, length, take, drop, Result, Ok, Err, MatchOption}
 use Rattle.std.proofs.Common.{refl, sym, ◌∙◌, subst, arith, length-take, length-drop, zero, suc, Bool, true, false, eqb, min, Option, Some, None, Bor}
 use Rattle.std.proofs.Math.Seq.{take-append_seam, drop-append_seam}
 use Rattle.std.proofs.lemmas.List.{nil_from_length}
 use Rattle.std.proofs.lemmas.Fn.{always_returns_same}
 use Rattle.std.proofs.lemmas.Iterator.{YieldsList}
 use Rattle.std.proofs.lemmas.Iterator.Splits.{YieldsList-from_shown_while}
-use Rattle.std.specs.Prelude.{◌++◌, MatchOption}
 use Rattle.std.specs.Fn.{ComputesKey, CalledAt}
 use Rattle.std.specs.Iterator.{AlwaysYields}
 use Rattle.std.specs.List.{IsFirstMatchOrLen}

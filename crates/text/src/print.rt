@@ -1,7 +1,7 @@
 // A printer writes bytes, numbers and answers into a lent buffer. No `write!`: std's formatting promises its bytes only on `Ok`, and never that it ends in `Ok`; these are written wherever there is room.
 ghost use Rattle.std.specs.Prelude.{◌≡◌, ◌∷◌, [], ◌++◌, ◌+◌, ◌*◌, ◌≤◌, ◌%◌, length};
 ghost use Rattle.book.specs.Answers.{answer_of};
-ghost use Rattle.text.specs.Print.{Put, digits, signed, rest_of_line, answer_line};
+ghost use Rattle.text.specs.Print.{digits, signed, rest_of_line, answer_line};
 ghost use Rattle.text.specs.Ledger.{heading};
 
 use book::Refusal;
@@ -57,7 +57,7 @@ impl<'a> Printer<'a> {
         self.byte(b'0' + (n % 10) as u8);
     }
 
-    // A number's digits, with room for just these; most are of one, which is written as it is.
+    // A number's digits, with room for just these. One alone needs no buffer of its own.
     #[tactic(auto, using(crate::proofs::Printing::digits_small))]
     pub fn digits(&mut self, n: u64)
         requires { HasRoom self.old (length (digits n)) }
