@@ -1,4 +1,4 @@
-/* The delivery book of one contract month: one session from a buffer to a buffer, or the page of the book after it; and the heat table of the coal price.
+/* The delivery book of one contract month: one session from a buffer to a buffer, or the page of the book after it, with the printed heat table of the coal price or a port's own; and the printed one.
    Link with crates/firmware/out/libfirmware.a, which `rt lib` in crates/firmware writes. */
 #ifndef DELIVERY_H
 #define DELIVERY_H
@@ -25,10 +25,20 @@ size_t delivery_session(const uint8_t *input, size_t input_length, uint8_t *outp
    written. The two buffers must not overlap. */
 size_t delivery_page(const uint8_t *input, size_t input_length, uint8_t *output, size_t output_length);
 
-/* The length of the heat table: 1,701 lines of 11 bytes. */
+/* The length of a port's own heat table: 8-byte numbers, most significant byte first, the count 1,701 and then the entries for heats 4,300 to 6,000, lowest first. */
+#define DELIVERY_TABLE_LENGTH 13616
+
+/* The same two with a heat table of the port's own, from the bytes of table: from heat 4,300 on, step 2 of the coal price is then the match's price times the heat's entry,
+   divided by 4,950,000,000, an exact half to the even fen. A table of another length or count, or with an entry outside 1..5,400,000,000 or below the one before,
+   is refused: `no 31` and a newline are written and nothing else, and 6 is returned; 0, with nothing written, where the output has no room for that.
+   The buffers must not overlap. */
+size_t delivery_session_by_table(const uint8_t *table, size_t table_length, const uint8_t *input, size_t input_length, uint8_t *output, size_t output_length);
+size_t delivery_page_by_table(const uint8_t *table, size_t table_length, const uint8_t *input, size_t input_length, uint8_t *output, size_t output_length);
+
+/* The length of the printed heat table: 1,701 lines of 11 bytes. */
 #define DELIVERY_HEAT_TABLE_ROOM 18711
 
-/* Writes the heat table from the start of output, where later bytes stay as they were: for each heat from 4,300 to 6,000, lowest first, the numerator of its price over
+/* Writes the printed heat table from the start of output, where later bytes stay as they were: for each heat from 4,300 to 6,000, lowest first, the numerator of its price over
    4,950,000,000, ten decimal digits and a newline. Step 2 of the coal price at these heats is the match's price times the numerator, divided by 4,950,000,000, an exact
    half to the even fen. Returns DELIVERY_HEAT_TABLE_ROOM. A shorter output is refused: 0 is returned and nothing is written. */
 size_t delivery_heat_table(uint8_t *output, size_t output_length);

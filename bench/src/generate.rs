@@ -243,3 +243,62 @@ pub fn damage(r: &mut Random, text: &mut Vec<u8>) {
         }
     }
 }
+
+/// The bytes of a heat table, most significant byte first.
+fn table_bytes(count: u64, entries: &[u64]) -> Vec<u8> {
+    std::iter::once(&count).chain(entries).flat_map(|n| n.to_be_bytes()).collect()
+}
+
+/// The greatest entry of a heat table.
+const MOST: u64 = 5_400_000_000;
+
+/// The entries of a port's own heat table.
+fn entries(r: &mut Random) -> Vec<u64> {
+    let mut entries: Vec<u64> = match r.below(6) {
+        0 => (4_300..=6_000).map(crate::machine::numerator).collect(),
+        1 => vec![r.pick(&[1, 2_475_000_000, 4_950_000_000, MOST]); 1_701],
+        2 => (0..1_701).map(|k| 1 + k * r.pick(&[1, 3_000_000])).map(|x| x.min(MOST)).collect(),
+        _ => (0..1_701).map(|_| 1 + r.below(MOST)).collect(),
+    };
+    entries.sort();
+    entries
+}
+
+pub fn own_table(r: &mut Random) -> Vec<u8> {
+    table_bytes(1_701, &entries(r))
+}
+
+/// A port's own heat table, one in three of them broken: in its count, its length, an entry out of range or two that fall.
+pub fn heat_table(r: &mut Random) -> Vec<u8> {
+    let mut entries = entries(r);
+    if r.chance(67) {
+        return table_bytes(1_701, &entries);
+    }
+    let place = r.pick(&[0, 1, 2, 850, 1_699, 1_700]) as usize;
+    match r.below(8) {
+        0 => table_bytes(r.pick(&[0, 1_700, 1_702, 1_701 << 56, (1 << 32) + 1_701]), &entries),
+        1 => table_bytes(1_701, &entries[1..]),
+        2 => table_bytes(1_701, &[entries, vec![MOST]].concat()),
+        3 => {
+            let mut bytes = table_bytes(1_701, &entries);
+            bytes.pop();
+            bytes
+        }
+        4 => {
+            let mut bytes = table_bytes(1_701, &entries);
+            bytes.push(0);
+            bytes
+        }
+        5 => {
+            entries[place] = r.pick(&[0, MOST + 1, 1 << 32 | MOST, u64::MAX]);
+            table_bytes(1_701, &entries)
+        }
+        6 => {
+            // equal ones stay in order
+            let other = (place + 1) % 1_701;
+            entries.swap(place, other);
+            table_bytes(1_701, &entries)
+        }
+        _ => entries.iter().flat_map(|n| n.to_le_bytes()).collect(),
+    }
+}

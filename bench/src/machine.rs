@@ -108,6 +108,7 @@ pub struct Book {
     pub board: bool,
     pub tonnes: u64,
     pub rate: u64,
+    pub heats: Option<Vec<u64>>,
     pub price: u64,
     pub day: u64,
     pub open: bool,
@@ -144,14 +145,16 @@ fn percent_half_up(percent: u64, n: u128) -> u128 {
     half_up(n * percent as u128, 100)
 }
 
-/// Coal price, steps 1 to 5: step 2 rounds an exact half to even, and step 5 takes 80% once, if volatiles or ash are outside (document 02, Jobs 3 and 8).
-pub fn coal_price(p: u64, h: u64, q: u64, s: u64, f: u64, a: u64) -> u128 {
+/// Coal price, steps 1 to 5: step 2 rounds an exact half to even, and step 5 takes 80% once, if volatiles or ash are outside (document 02, Jobs 3 and 8). With a port's own heat table step 2 is by its entry from 4,300 on (Job 10).
+#[allow(clippy::too_many_arguments)]
+pub fn coal_price(heats: Option<&[u64]>, p: u64, h: u64, q: u64, s: u64, f: u64, a: u64) -> u128 {
     let mut e = if q >= h + 300 { h + 300 } else { q };
     if e > 6_000 {
         e = 6_000;
     }
     let n = p as u128 * e as u128;
     let mut x = match e {
+        4_300.. if heats.is_some() => half_even(p as u128 * heats.unwrap()[e as usize - 4_300] as u128, 4_950_000_000),
         5_300.. => half_even(n, 5_500),
         4_800.. => half_even(n * 8_768, 50_000_000),
         4_300.. => half_even(n * 7_687, 45_000_000),
@@ -189,6 +192,17 @@ pub fn heat_table() -> String {
     (4_300..=6_000).map(|heat| format!("{}\n", numerator(heat))).collect()
 }
 
+/// A port's own heat table: 8-byte numbers, most significant byte first, the count 1,701 and then the entries; or 31 (document 02, Job 10).
+pub fn load(bytes: &[u8]) -> Result<Vec<u64>, u64> {
+    no(bytes.len() != 8 * 1_702, 31)?;
+    let numbers: Vec<u64> = bytes.chunks(8).map(|word| word.iter().fold(0, |n, &byte| n << 8 | byte as u64)).collect();
+    let (count, entries) = numbers.split_first().expect("1,702 numbers");
+    no(*count != 1_701, 31)?;
+    no(entries.iter().any(|entry| !(1..=5_400_000_000).contains(entry)), 31)?;
+    no(entries.windows(2).any(|pair| pair[1] < pair[0]), 31)?;
+    Ok(entries.to_vec())
+}
+
 /// The weight that is paid for, and the kilograms over: those above D + 500,000, before moisture (document 02, Job 2).
 pub fn coal_weight(d: u64, w: u64, m: u64) -> (u128, u64) {
     let least = d.saturating_sub(500_000);
@@ -215,7 +229,8 @@ fn no(condition: bool, number: u64) -> Result<(), u64> {
 }
 
 impl Book {
-    pub fn open(kind: u64, tonnes: u64, rate: u64, price: u64) -> Result<Book, u64> {
+    /// With a port's own heat table, or none: it keeps the one it was opened with.
+    pub fn open(heats: Option<&[u64]>, kind: u64, tonnes: u64, rate: u64, price: u64) -> Result<Book, u64> {
         no(kind > 1, 1)?;
         no(!(1..=20_000).contains(&tonnes), 1)?;
         no(rate > 100, 1)?;
@@ -224,6 +239,7 @@ impl Book {
             board: kind == 1,
             tonnes,
             rate,
+            heats: heats.map(<[u64]>::to_vec),
             price,
             day: 0,
             open: true,
@@ -583,7 +599,7 @@ impl Book {
         no(w > 40_000_000_000 || [q, m, s, f, a].iter().any(|&x| x > 10_000), 24)?;
         let v = self.value(j);
         let x = self.matches[j].clone();
-        let price = coal_price(x.price, x.heat.unwrap_or(0), q, s, f, a);
+        let price = coal_price(self.heats.as_deref(), x.price, x.heat.unwrap_or(0), q, s, f, a);
         let (weight, over) = coal_weight(x.units * self.tonnes * 1_000, w, m);
         let amount = half_up(price * weight, 1_000);
         self.pay(x.buyer, v);

@@ -2,7 +2,9 @@
 
 extern "C" {
     fn delivery_session(input: *const u8, input_length: usize, output: *mut u8, output_length: usize) -> usize;
+    fn delivery_session_by_table(table: *const u8, table_length: usize, input: *const u8, input_length: usize, output: *mut u8, output_length: usize) -> usize;
     fn delivery_page(input: *const u8, input_length: usize, output: *mut u8, output_length: usize) -> usize;
+    fn delivery_page_by_table(table: *const u8, table_length: usize, input: *const u8, input_length: usize, output: *mut u8, output_length: usize) -> usize;
     fn delivery_heat_table(output: *mut u8, output_length: usize) -> usize;
 }
 
@@ -21,13 +23,28 @@ pub fn run(input: &[u8], out: &mut Vec<u8>) -> usize {
     unsafe { delivery_session(input.as_ptr(), input.len(), out.as_mut_ptr(), out.len()) }
 }
 
+/// The same with the heat table that is loaded from these bytes.
+pub fn run_by_table(table: &[u8], input: &[u8], out: &mut Vec<u8>) -> usize {
+    if out.len() < ROOM {
+        out.resize(ROOM, 0);
+    }
+    // As above, with a third slice that is only read.
+    unsafe { delivery_session_by_table(table.as_ptr(), table.len(), input.as_ptr(), input.len(), out.as_mut_ptr(), out.len()) }
+}
+
 /// The page of the book after a session into a lent buffer of any length; answers how many bytes it wrote.
 pub fn lend(input: &[u8], out: &mut [u8]) -> usize {
     // As above.
     unsafe { delivery_page(input.as_ptr(), input.len(), out.as_mut_ptr(), out.len()) }
 }
 
-/// The same into a buffer of PAGE_ROOM bytes, which is not cleared first.
+/// The same with the heat table that is loaded from these bytes.
+pub fn lend_by_table(table: &[u8], input: &[u8], out: &mut [u8]) -> usize {
+    // As above.
+    unsafe { delivery_page_by_table(table.as_ptr(), table.len(), input.as_ptr(), input.len(), out.as_mut_ptr(), out.len()) }
+}
+
+/// The page into a buffer of PAGE_ROOM bytes, which is not cleared first.
 pub fn page(input: &[u8], out: &mut Vec<u8>) -> usize {
     if out.len() < PAGE_ROOM {
         out.resize(PAGE_ROOM, 0);

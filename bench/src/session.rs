@@ -1,5 +1,5 @@
 //! The session program: from the bytes of the input to the bytes of the output, or to the page of the book after it.
-use crate::machine::{Answer, Book, Side, Stage, State};
+use crate::machine::{load, Answer, Book, Side, Stage, State};
 use std::io::Write;
 
 const LARGEST: usize = 65_536;
@@ -109,8 +109,8 @@ fn ledger_page(book: &Book, out: &mut Vec<u8>) {
     line(format!("fund {}", book.fund));
 }
 
-/// Runs the lines of a session and hands each answer to `tell`: the book after them, or none where line one is refused.
-fn play(input: &[u8], mut tell: impl FnMut(Answer)) -> Option<Book> {
+/// Runs the lines of a session, with a port's own heat table or none, and hands each answer to `tell`: the book after them, or none where line one is refused.
+fn play(heats: Option<&[u64]>, input: &[u8], mut tell: impl FnMut(Answer)) -> Option<Book> {
     if input.is_empty() || input.len() > LARGEST {
         tell(Err(26));
         return None;
@@ -118,7 +118,7 @@ fn play(input: &[u8], mut tell: impl FnMut(Answer)) -> Option<Book> {
     let mut lines = input.split_inclusive(|&c| c == b'\n');
     let mut values = [0u64; 8];
     let opened = match lines.next().and_then(|l| numbers(l, &mut values)) {
-        Some(5) if values[0] == 0 => Book::open(values[1], values[2], values[3], values[4]),
+        Some(5) if values[0] == 0 => Book::open(heats, values[1], values[2], values[3], values[4]),
         _ => Err(26),
     };
     let mut book = match opened {
@@ -145,24 +145,52 @@ fn answer_line(answer: Answer, out: &mut Vec<u8>) {
     }
 }
 
-/// The whole output of a session; answers how many bytes it has.
-pub fn run(input: &[u8], out: &mut Vec<u8>) -> usize {
+/// The whole output of a session with a heat table; answers how many bytes it has.
+fn run_with(heats: Option<&[u64]>, input: &[u8], out: &mut Vec<u8>) -> usize {
     out.clear();
-    if let Some(book) = play(input, |answer| answer_line(answer, out)) {
+    if let Some(book) = play(heats, input, |answer| answer_line(answer, out)) {
         ledger(&book, out);
     }
     out.len()
 }
 
-/// The page of the book after a session, or line one's refusal; answers how many bytes it has.
-pub fn page(input: &[u8], out: &mut Vec<u8>) -> usize {
+/// The page of the book after a session with a heat table, or line one's refusal; answers how many bytes it has.
+fn page_with(heats: Option<&[u64]>, input: &[u8], out: &mut Vec<u8>) -> usize {
     out.clear();
     let mut first = None;
-    match play(input, |answer| {
+    match play(heats, input, |answer| {
         first.get_or_insert(answer);
     }) {
         Some(book) => ledger_page(&book, out),
         None => answer_line(first.expect("line one is answered"), out),
     }
     out.len()
+}
+
+pub fn run(input: &[u8], out: &mut Vec<u8>) -> usize {
+    run_with(None, input, out)
+}
+
+pub fn page(input: &[u8], out: &mut Vec<u8>) -> usize {
+    page_with(None, input, out)
+}
+
+/// With the table that is loaded from these bytes, or `no 31` and nothing else.
+fn by_table(table: &[u8], out: &mut Vec<u8>, write: impl Fn(Option<&[u64]>, &mut Vec<u8>) -> usize) -> usize {
+    match load(table) {
+        Ok(heats) => write(Some(&heats), out),
+        Err(n) => {
+            out.clear();
+            answer_line(Err(n), out);
+            out.len()
+        }
+    }
+}
+
+pub fn run_by_table(table: &[u8], input: &[u8], out: &mut Vec<u8>) -> usize {
+    by_table(table, out, |heats, out| run_with(heats, input, out))
+}
+
+pub fn page_by_table(table: &[u8], input: &[u8], out: &mut Vec<u8>) -> usize {
+    by_table(table, out, |heats, out| page_with(heats, input, out))
 }

@@ -1,5 +1,5 @@
-//! Runs the proved book and the plain one over the same sessions and compares every byte, of the sessions and of the pages, and the heat table: differ [SESSIONS]
-use bench::generate::{damage, measured, session, short_session, Random};
+//! Runs the proved book and the plain one over the same sessions and compares every byte, of the sessions and of the pages, with the printed heat table and with others, and the heat table: differ [SESSIONS]
+use bench::generate::{damage, heat_table, measured, own_table, session, short_session, Random};
 
 /// Whether a text is written into a buffer of its own length, and into longer ones, whose later bytes stay, and not into a shorter one, which stays as it was.
 fn lent_agrees(text: &[u8], rooms: &[usize], write: impl Fn(&mut [u8]) -> usize) -> bool {
@@ -20,28 +20,39 @@ fn page_agrees(text: &[u8], page: &[u8]) -> bool {
     lent_agrees(page, &[0, 1, n / 2, n - 1, n, n + 1, n + 41, bench::proved::PAGE_ROOM], |lent| bench::proved::lend(text, lent))
 }
 
+fn page_by_table_agrees(table: &[u8], text: &[u8], page: &[u8]) -> bool {
+    let n = page.len();
+    lent_agrees(page, &[0, n - 1, n, n + 1, bench::proved::PAGE_ROOM], |lent| bench::proved::lend_by_table(table, text, lent))
+}
+
 fn table_agrees() -> bool {
     let table = bench::machine::heat_table();
     let n = table.len();
     lent_agrees(table.as_bytes(), &[0, 1, n / 2, n - 1, n, n + 1, n + 41], bench::proved::heat_table)
 }
 
-/// Whether both write the same of a cargo of a tonne at each heat from 4,000 to 6,300, looked up or not, at several prices.
+/// Whether both write the same of a cargo of a tonne at each heat from 4,000 to 6,300, looked up or not, at several prices, in the printed heat table and in one of its own.
 fn heats_agree(ours: &mut Vec<u8>, plain: &mut Vec<u8>) -> bool {
     (4_000..=6_300).all(|heat| {
+        let own = own_table(&mut Random::new(heat));
         [1, 2_750, 80_000, 999_999, 1_000_000].iter().all(|&price| {
             let text = measured(heat, price);
             let n = bench::proved::run(&text, ours);
             let m = bench::session::run(&text, plain);
             let accepted = plain[..m].split(|&c| c == b'\n').filter(|l| l.starts_with(b"ok ")).count();
-            ours[..n] == plain[..m] && accepted == 12
+            let same = ours[..n] == plain[..m] && accepted == 12;
+            let n = bench::proved::run_by_table(&own, &text, ours);
+            let m = bench::session::run_by_table(&own, &text, plain);
+            let accepted = plain[..m].split(|&c| c == b'\n').filter(|l| l.starts_with(b"ok ")).count();
+            same && ours[..n] == plain[..m] && accepted == 12
         })
     })
 }
 
 fn main() {
     let count: u64 = std::env::args().nth(1).and_then(|a| a.parse().ok()).unwrap_or(20_000);
-    let (mut ours, mut plain, mut page) = (Vec::new(), Vec::new(), Vec::new());
+    let (mut ours, mut plain, mut page, mut by_table, mut page_by) = (Vec::new(), Vec::new(), Vec::new(), Vec::new(), Vec::new());
+    let (mut refused, mut other) = (0usize, 0usize);
     if !table_agrees() || !heats_agree(&mut ours, &mut plain) {
         println!("the heat table, or a price that is looked up in it, differs");
         std::process::exit(1);
@@ -71,10 +82,22 @@ fn main() {
             println!("session {} differs: see differs.in", seed);
             std::process::exit(1);
         }
+        let table = heat_table(&mut r);
+        let n = bench::proved::run_by_table(&table, &text, &mut ours);
+        let k = bench::session::run_by_table(&table, &text, &mut by_table);
+        bench::session::page_by_table(&table, &text, &mut page_by);
+        if ours[..n] != by_table[..k] || !page_by_table_agrees(&table, &text, &page_by) {
+            std::fs::write("differs.in", &text).expect("written");
+            std::fs::write("differs.table", &table).expect("written");
+            println!("session {} differs with a heat table of its own: see differs.in and differs.table", seed);
+            std::process::exit(1);
+        }
+        refused += (by_table == b"no 31\n") as usize;
+        other += (by_table != plain && by_table != b"no 31\n") as usize;
         bytes += text.len();
         page_lines += page.iter().filter(|&&c| c == b'\n').count();
         lines += plain.iter().filter(|&&c| c == b'\n').count();
         accepted += plain.split(|&c| c == b'\n').filter(|l| l.starts_with(b"ok ")).count();
     }
-    println!("{} sessions, {} bytes in, {} lines out, {} accepted, {} lines of pages: every byte the same", count, bytes, lines, accepted, page_lines);
+    println!("{} sessions, {} bytes in, {} lines out, {} accepted, {} lines of pages; each again with a heat table of its own, of which {} are refused and {} change the output: every byte the same", count, bytes, lines, accepted, page_lines, refused, other);
 }

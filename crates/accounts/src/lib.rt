@@ -7,10 +7,12 @@ ghost use Rattle.book.specs.Opening.{opened, opening, next_day};
 ghost use Rattle.book.specs.Accounts.{join, deposit, withdraw, trade};
 
 use book::{Account, Amount, Book, Month, Opening, Refusal, Side, flag};
+use heats::HeatTable;
 
+// With the heat table that the book keeps, a loaded one or the printed one: "Each book keeps the table it was opened with".
 // "kind (0 receipts, 1 board), T tonnes per unit 1..20,000, default rate R 0..100 percent, price 1..1,000,000 fen/t"
-pub fn opening(terms: &Opening) -> Result<Month, Refusal>
-    ensures { opened result ≡ opening terms.now.kind terms.now.tonnes terms.now.rate terms.now.price }
+pub fn opening<'t>(heats: &HeatTable<'t>, terms: &Opening) -> Result<Month<'t>, Refusal>
+    ensures { opened result ≡ opening heats.now terms.now.kind terms.now.tonnes terms.now.rate terms.now.price }
 {
     let board = flag(terms.kind, Refusal::OutOfRange)?;
     if !(1..=20_000).contains(&terms.tonnes)
@@ -19,7 +21,7 @@ pub fn opening(terms: &Opening) -> Result<Month, Refusal>
     {
         return Err(Refusal::OutOfRange);
     }
-    let book = Book::fresh(board, terms.tonnes, terms.rate, terms.price);
+    let book = Book::fresh(heats.lend(), board, terms.tonnes, terms.rate, terms.price);
     Ok(Month { book })
 }
 

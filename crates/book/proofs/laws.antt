@@ -28,3 +28,4 @@ pub mod Demand
 pub mod Agreeing
 pub mod PaidFor
 pub mod Auctions
+pub mod OwnTable

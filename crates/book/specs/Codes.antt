@@ -61,6 +61,7 @@ refusal_number Refusal.BufferShort = 27
 refusal_number Refusal.FifthDay = 28
 refusal_number Refusal.OverseasWinner = 29
 refusal_number Refusal.AboveWinnersCash = 30
+refusal_number Refusal.BadTable = 31
 
 -- "14 Measure match, W, Q, M, S, F, A": the values of a Measure, in that order
 abbrev pub sample : (w q m s f a : ℕ) → Sample

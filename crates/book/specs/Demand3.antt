@@ -1,5 +1,6 @@
 -- Demand 3, the statement, in the words of document 01, "Lists", and on older positions in those of document 02, Job 5. Assumes nothing.
 use Rattle.std.specs.Prelude.{◌≡◌, Bool, true, false, ◌&&◌, List, [], ◌∷◌, ◌++◌, ℕ, zero, suc, ◌+◌, ◌-◌, ◌≤◌, ◌<◌, min, eqb, ℤ, pos, ◌+ℤ◌, ◌-ℤ◌, get_or}
+use Rattle.heats.specs.HeatTables.{IsHeatTable}
 use Rattle.coal.specs.Choice.{pick}
 use Rattle.book.specs.Types.{ReceiptState, Lot, Book, Call}
 use Rattle.book.specs.Counting.{sum, total, tally}
@@ -121,6 +122,7 @@ pub record Holds (b : Book) (cs : List Call) (e : Book) : Type 0 where
 
 -- "For every list of the sixteen calls (Join to Terminate, any arguments, refused ones and defaults included) from one freshly opened book, this
 -- holds after it, in the words of document 01."; "Lists and sessions may hold call 17".
--- "A list of calls or a session may now hold this one", call 18. "The list starts from the book of any accepted opening, of either kind."
+-- "A list of calls or a session may now hold this one", call 18. "The list starts from the book of any accepted opening, of either kind.", with any
+-- heat table: "demand 3 holds for every such table", the printed one among them (`printed_table`)
 abbrev pub Demand3 : Type 0
-Demand3 = (kind t r p : ℕ) → is_accepted (opening kind t r p).answer ≡ true → (cs : List Call) → Holds (opening kind t r p).book cs (after (opening kind t r p).book cs)
+Demand3 = (heats : List ℕ) → IsHeatTable heats → (kind t r p : ℕ) → is_accepted (opening heats kind t r p).answer ≡ true → (cs : List Call) → Holds (opening heats kind t r p).book cs (after (opening heats kind t r p).book cs)

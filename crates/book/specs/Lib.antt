@@ -23,3 +23,4 @@ pub mod Demand3
 pub mod Agreement
 pub mod PaidFor
 pub mod Auctions
+pub mod OwnTable

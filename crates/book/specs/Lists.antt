@@ -1,5 +1,6 @@
 -- Lists of calls. "Each call gets the book that the one before it left" Assumes nothing.
 use Rattle.std.specs.Prelude.{◌≡◌, Bool, true, List, [], ◌∷◌, ℕ, ◌+◌, eqb, ℤ, pos, ◌+ℤ◌}
+use Rattle.heats.specs.HeatTables.{IsHeatTable}
 use Rattle.coal.specs.Choice.{pick}
 use Rattle.book.specs.Types.{Book, Call}
 use Rattle.book.specs.Answers.{is_accepted}
@@ -18,7 +19,7 @@ accepts b c = is_accepted (step b c).answer
 
 -- a book "reached from an accepted opening by calls"
 pub data Reached : Book → Type 0 where
-  opened : (kind t r p : ℕ) → is_accepted (opening kind t r p).answer ≡ true → Reached (opening kind t r p).book
+  opened : (heats : List ℕ) → IsHeatTable heats → (kind t r p : ℕ) → is_accepted (opening heats kind t r p).answer ≡ true → Reached (opening heats kind t r p).book
   called : {b : Book} (c : Call) → Reached b → Reached (step b c).book
 
 -- ---- sums over the accepted calls of a list

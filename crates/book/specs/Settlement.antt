@@ -108,7 +108,7 @@ cargo b c w m = coal_weight (c.units * b.tonnes * 1_000) w m
 
 -- "amount B", of P the match's price, H its declared heat, the settled weight, and the measured values
 unfoldable pub amount_due : Book → Match → (w q m s f a : ℕ) → ℕ
-amount_due b c w q m s f a = amount (coal_price c.price (heat_value c.heat) q s f a) (cargo b c w m).settled
+amount_due b c w q m s f a = amount (coal_price b.heats c.price (heat_value c.heat) q s f a) (cargo b c w m).settled
 
 -- "buyer gets V back and pays B; seller gets 80% of B, down; the rest is held; stage held."
 unfoldable pub measured : Book → ℕ → Match → ℕ → Book

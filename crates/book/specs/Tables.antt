@@ -18,25 +18,25 @@ match_at b j = get_or b.matches j blank_match
 -- ---- one field changed
 
 abbrev pub with_accounts : Book → List Account → ℕ → Book
-with_accounts b l n = record { board = b.board; tonnes = b.tonnes; rate = b.rate; price = b.price; day = b.day; «open» = b.«open»; fund = b.fund; deposited = b.deposited; accounts = l; account_count = n; receipts = b.receipts; receipt_count = b.receipt_count; matches = b.matches; match_count = b.match_count }
+with_accounts b l n = record { board = b.board; tonnes = b.tonnes; rate = b.rate; heats = b.heats; price = b.price; day = b.day; «open» = b.«open»; fund = b.fund; deposited = b.deposited; accounts = l; account_count = n; receipts = b.receipts; receipt_count = b.receipt_count; matches = b.matches; match_count = b.match_count }
 
 abbrev pub with_receipts : Book → List Receipt → ℕ → Book
-with_receipts b l n = record { board = b.board; tonnes = b.tonnes; rate = b.rate; price = b.price; day = b.day; «open» = b.«open»; fund = b.fund; deposited = b.deposited; accounts = b.accounts; account_count = b.account_count; receipts = l; receipt_count = n; matches = b.matches; match_count = b.match_count }
+with_receipts b l n = record { board = b.board; tonnes = b.tonnes; rate = b.rate; heats = b.heats; price = b.price; day = b.day; «open» = b.«open»; fund = b.fund; deposited = b.deposited; accounts = b.accounts; account_count = b.account_count; receipts = l; receipt_count = n; matches = b.matches; match_count = b.match_count }
 
 abbrev pub with_matches : Book → List Match → ℕ → Book
-with_matches b l n = record { board = b.board; tonnes = b.tonnes; rate = b.rate; price = b.price; day = b.day; «open» = b.«open»; fund = b.fund; deposited = b.deposited; accounts = b.accounts; account_count = b.account_count; receipts = b.receipts; receipt_count = b.receipt_count; matches = l; match_count = n }
+with_matches b l n = record { board = b.board; tonnes = b.tonnes; rate = b.rate; heats = b.heats; price = b.price; day = b.day; «open» = b.«open»; fund = b.fund; deposited = b.deposited; accounts = b.accounts; account_count = b.account_count; receipts = b.receipts; receipt_count = b.receipt_count; matches = l; match_count = n }
 
 abbrev pub with_fund : Book → ℕ → Book
-with_fund b x = record { board = b.board; tonnes = b.tonnes; rate = b.rate; price = b.price; day = b.day; «open» = b.«open»; fund = x; deposited = b.deposited; accounts = b.accounts; account_count = b.account_count; receipts = b.receipts; receipt_count = b.receipt_count; matches = b.matches; match_count = b.match_count }
+with_fund b x = record { board = b.board; tonnes = b.tonnes; rate = b.rate; heats = b.heats; price = b.price; day = b.day; «open» = b.«open»; fund = x; deposited = b.deposited; accounts = b.accounts; account_count = b.account_count; receipts = b.receipts; receipt_count = b.receipt_count; matches = b.matches; match_count = b.match_count }
 
 abbrev pub with_deposited : Book → ℕ → Book
-with_deposited b x = record { board = b.board; tonnes = b.tonnes; rate = b.rate; price = b.price; day = b.day; «open» = b.«open»; fund = b.fund; deposited = x; accounts = b.accounts; account_count = b.account_count; receipts = b.receipts; receipt_count = b.receipt_count; matches = b.matches; match_count = b.match_count }
+with_deposited b x = record { board = b.board; tonnes = b.tonnes; rate = b.rate; heats = b.heats; price = b.price; day = b.day; «open» = b.«open»; fund = b.fund; deposited = x; accounts = b.accounts; account_count = b.account_count; receipts = b.receipts; receipt_count = b.receipt_count; matches = b.matches; match_count = b.match_count }
 
 abbrev pub with_day : Book → ℕ → ℕ → Book
-with_day b p d = record { board = b.board; tonnes = b.tonnes; rate = b.rate; price = p; day = d; «open» = b.«open»; fund = b.fund; deposited = b.deposited; accounts = b.accounts; account_count = b.account_count; receipts = b.receipts; receipt_count = b.receipt_count; matches = b.matches; match_count = b.match_count }
+with_day b p d = record { board = b.board; tonnes = b.tonnes; rate = b.rate; heats = b.heats; price = p; day = d; «open» = b.«open»; fund = b.fund; deposited = b.deposited; accounts = b.accounts; account_count = b.account_count; receipts = b.receipts; receipt_count = b.receipt_count; matches = b.matches; match_count = b.match_count }
 
 abbrev pub with_open : Book → Bool → Book
-with_open b o = record { board = b.board; tonnes = b.tonnes; rate = b.rate; price = b.price; day = b.day; «open» = o; fund = b.fund; deposited = b.deposited; accounts = b.accounts; account_count = b.account_count; receipts = b.receipts; receipt_count = b.receipt_count; matches = b.matches; match_count = b.match_count }
+with_open b o = record { board = b.board; tonnes = b.tonnes; rate = b.rate; heats = b.heats; price = b.price; day = b.day; «open» = o; fund = b.fund; deposited = b.deposited; accounts = b.accounts; account_count = b.account_count; receipts = b.receipts; receipt_count = b.receipt_count; matches = b.matches; match_count = b.match_count }
 
 -- ---- one cell changed, one cell more
 

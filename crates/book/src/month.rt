@@ -4,12 +4,12 @@ use crate::tables::Book;
 use std::marker::Model;
 
 // The book of one contract month, reached from an accepted opening by calls: a clause sees the book, and each month's is so.
-#[derive(Clone, Copy)]
-pub struct Month {
-    pub book: Book,
+#[derive(Drop)]
+pub struct Month<'t> {
+    pub book: Book<'t>,
 }
 
-impl Model for Month {
+impl<'t> Model for Month<'t> {
     ghost use Rattle.book.specs.declared.tables.Book.{Book};
     ghost use Rattle.book.specs.Lists.{Reached};
 
@@ -18,6 +18,4 @@ impl Model for Month {
     ghost view = { λ month. month.book };
 
     ghost invariant = { λ month. Reached month.book };
-
-    ghost inverse = { λ b. record { book = b } };
 }

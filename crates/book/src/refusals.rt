@@ -1,4 +1,4 @@
-// Why a call, a line or a buffer is refused.
+// Why a call, a line, a buffer or a heat table is refused.
 ghost use Rattle.std.specs.Prelude.{◌≡◌, ◌≤◌, ◌<◌, eqb, IfOk, IfErr};
 ghost use Rattle.book.specs.Codes.{refusal_number};
 
@@ -65,6 +65,8 @@ pub enum Refusal {
     OverseasWinner = 29,
     // "proceeds are above zero and its cash is below them"
     AboveWinnersCash = 30,
+    // "31 when the count, the length or an entry breaks these rules": a heat table
+    BadTable = 31,
 }
 
 impl Refusal {

@@ -7,11 +7,12 @@ use crate::accounts::Account;
 use crate::matches::Match;
 use crate::receipts::Receipt;
 use crate::refusals::Refusal;
+use heats::HeatTable;
 
-// The book: kind, T, R, the day's price, and the three tables, each an array of fixed length with how many of its rows are in use: "starts as [v; 256]".
+// The book: kind, T, R, the day's price, the three tables, each an array of fixed length with how many of its rows are in use, "starts as [v; 256]", and last, so that no row lies elsewhere for it, the heat table that it was opened with, lent.
 // No invariant bounds the counts: Day, Join and the test of Close are promised of any book, and would ask it. A function that cuts the rows in use asks its count.
-#[derive(Clone, Copy)]
-pub struct Book {
+#[derive(Drop)]
+pub struct Book<'t> {
     pub board: bool,
     pub tonnes: u64,
     pub rate: u64,
@@ -26,6 +27,7 @@ pub struct Book {
     pub receipt_count: usize,
     pub matches: [Match; Book::MATCHES],
     pub match_count: usize,
+    pub heats: HeatTable<'t>,
 }
 
 // One of a list of buyers or sellers in Close: an account's number, the units left to it, and where it is a lot its day, else 0, which nothing reads: only lots are compared by day.
@@ -56,7 +58,7 @@ fn place(count: usize, number: u64, refusal: Refusal) -> Result<usize, Refusal>
     Ok(number as usize)
 }
 
-impl Book {
+impl<'t> Book<'t> {
     pub const ACCOUNTS: usize = 32;
 
     // four to an account
@@ -70,8 +72,8 @@ impl Book {
     pub const TAKE_MATCHES: usize = 64;
 
     // "A fresh book": day 0, market open, fund 0, deposits accepted 0, all else empty.
-    pub fn fresh(board: bool, tonnes: u64, rate: u64, price: u64) -> Book
-        ensures { result ≡ fresh board tonnes rate price }
+    pub fn fresh(heats: HeatTable<'t>, board: bool, tonnes: u64, rate: u64, price: u64) -> Book<'t>
+        ensures { result ≡ fresh heats.entry board tonnes rate price }
     {
         let accounts = [Account::new(false, false); 32];
         let receipts = [Receipt::new(0, false); 256];
@@ -91,6 +93,7 @@ impl Book {
             receipt_count: 0,
             matches,
             match_count: 0,
+            heats,
         }
     }
 

@@ -19,3 +19,4 @@ pub mod Over
 pub mod Halves
 pub mod Deductions
 pub mod Tables
+pub mod PortTables

@@ -1,5 +1,8 @@
 -- A session as it is written in these files: an opening, calls each with its answer, and the ledger after them. Assumes nothing.
 use Rattle.std.specs.Prelude.{List, [], ◌∷◌, ◌++◌, map, ℕ, zero, suc, ◌+◌, ℤ, pos, neg_ℤ}
+use Rattle.heats.specs.Each as numbers
+use Rattle.heats.specs.Numerators as heats
+use Rattle.heats.specs.Numerators.{heat_table}
 use Rattle.coal.specs.Coal as coal
 use Rattle.book.specs.declared.tables.Book.{Book}
 use Rattle.book.specs.declared.calls.Call.{Call}
@@ -83,15 +86,19 @@ abbrev pub answered : Book → List Call → List Line
 answered b [] = []
 answered b (c ∷ cs) = let o = step b c in line c o.answer ∷ answered o.book cs
 
--- the book of an opening
-unfoldable pub book_of : ℕ → ℕ → ℕ → ℕ → Book
+-- the book of an opening with a heat table; and with the printed one, "if none was loaded"
+unfoldable pub book_with : List ℕ → ℕ → ℕ → ℕ → ℕ → Book
 unfolding opening
-book_of kind t r p = (opening kind t r p).book
+book_with heats kind t r p = (opening heats kind t r p).book
+
+unfoldable pub book_of : ℕ → ℕ → ℕ → ℕ → Book
+unfolding book_with
+book_of kind t r p = book_with heat_table kind t r p
 
 -- the answers of a script's calls from an opening
 unfoldable pub play : ℕ → ℕ → ℕ → ℕ → List Line → List Line
 unfolding
-    coal.half_up coal.half_even coal.percent_down coal.percent_half_up coal.settled_heat coal.price_by_heat coal.less_short_heat coal.less_sulphur coal.by_sulphur coal.outside
+    coal.half_up coal.half_even coal.percent_down coal.percent_half_up coal.settled_heat numbers.each heats.numerator heats.heat_table coal.price_by_band coal.price_by_heat coal.less_short_heat coal.less_sulphur coal.by_sulphur coal.outside
     coal.by_volatiles_or_ash coal.coal_price coal.weight_within coal.by_moisture coal.coal_weight coal.amount
     counting.iter counting.lowest counting.tally counting.sum counting.total counting.those
     tables.pay tables.charge tables.free_at tables.free_receipts tables.frozen_at tables.frozen_receipts opening next_day

@@ -2,17 +2,18 @@
 use Rattle.std.specs.Prelude.{◌≡◌, refl, List, [], ◌∷◌, ◌++◌}
 use Rattle.book.specs.declared.calls.Call.{Call}
 use Rattle.book.specs.Outcomes.{Answer}
+use Rattle.heats.specs.Numerators.{heat_table}
 use Rattle.book.specs.Opening.{opening}
 use Rattle.computed.specs.Script.{ok, no, times, rounds, then_answers}
 
 -- "1 opening value .. out of range": kind, T, R and price, the last value within and the first outside
 abbrev opened : List Answer
 opened =
-    (opening 0 1 0 1).answer ∷ (opening 1 20_000 100 1_000_000).answer
-    ∷ (opening 2 1 0 1).answer
-    ∷ (opening 0 0 0 1).answer ∷ (opening 0 20_001 0 1).answer
-    ∷ (opening 0 1 101 1).answer
-    ∷ (opening 0 1 0 0).answer ∷ (opening 0 1 0 1_000_001).answer
+    (opening heat_table 0 1 0 1).answer ∷ (opening heat_table 1 20_000 100 1_000_000).answer
+    ∷ (opening heat_table 2 1 0 1).answer
+    ∷ (opening heat_table 0 0 0 1).answer ∷ (opening heat_table 0 20_001 0 1).answer
+    ∷ (opening heat_table 0 1 101 1).answer
+    ∷ (opening heat_table 0 1 0 0).answer ∷ (opening heat_table 0 1 0 1_000_001).answer
     ∷ []
 
 openings : opened ≡ ok 0 ∷ ok 0 ∷ no 1 ∷ no 1 ∷ no 1 ∷ no 1 ∷ no 1 ∷ no 1 ∷ []

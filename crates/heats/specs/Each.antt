@@ -1,6 +1,6 @@
 -- A list made by a rule, and the rule at each place of it. Assumes nothing.
-use Rattle.std.specs.Prelude.{◌≡◌, List, [], ◌∷◌, ℕ, zero, suc, ◌+◌, ◌<◌, get_or}
-use Rattle.std.proofs.Common.{◌∙◌, sym, ap, add-zero, add-suc, suc-add, le_of_suc-le-suc, not-suc-le-zero}
+use Rattle.std.specs.Prelude.{◌≡◌, List, [], ◌∷◌, ℕ, zero, suc, ◌+◌, ◌<◌, length, get_or}
+use Rattle.std.proofs.Common.{refl, ◌∙◌, sym, ap, add-zero, add-suc, suc-add, le_of_suc-le-suc, not-suc-le-zero}
 
 -- f of each of the n numbers from i on
 unfoldable pub each : (ℕ → ℕ) → ℕ → ℕ → List ℕ
@@ -13,3 +13,8 @@ unfolding each
 each_at f zero i k h = absurd (not-suc-le-zero h)
 each_at f (suc n) i zero h = ap f (sym (add-zero i))
 each_at f (suc n) i (suc k) h = each_at f n (suc i) k (le_of_suc-le-suc h) ∙ ap f (suc-add i k ∙ sym (add-suc i k))
+
+pub length-each : (f : ℕ → ℕ) (n i : ℕ) → length (each f n i) ≡ n
+unfolding each
+length-each f zero i = refl
+length-each f (suc n) i = ap suc (length-each f n (suc i))

@@ -1,8 +1,9 @@
 -- Document 02, Job 9: the numerators by which step 2 of the coal price is looked up, "over the common denominator 4,950,000,000". Assumes nothing.
-use Rattle.std.specs.Prelude.{◌≡◌, Bool, true, false, List, ℕ, ◌-◌, ◌*◌, ◌≤◌, leb, get_or}
+use Rattle.std.specs.Prelude.{◌≡◌, Bool, true, false, List, ℕ, ◌-◌, ◌*◌, ◌≤◌, leb}
 use Rattle.std.proofs.Common.{add-sub_of_le, arith}
 use Rattle.std.proofs.Math.Nat.{mul-le-mul}
 use Rattle.heats.specs.Each.{each, each_at}
+use Rattle.heats.specs.HeatTables.{entry_of}
 
 -- "the common denominator 4,950,000,000"
 abbrev pub denominator : ℕ
@@ -23,11 +24,11 @@ unfoldable pub heat_table : List ℕ
 heat_table = each numerator 1_701 4_300
 
 -- the entry of a heat: what stands in a list that is the table
-pub entry : {l : List ℕ} → l ≡ heat_table → (e : ℕ) → 4_300 ≤ e → e ≤ 6_000 → get_or l (e - 4_300) 0 ≡ numerator e
+pub entry : {l : List ℕ} → l ≡ heat_table → (e : ℕ) → 4_300 ≤ e → e ≤ 6_000 → entry_of l e ≡ numerator e
 unfolding heat_table
 entry t e h k = rw (t, each_at numerator 1_701 4_300 (e - 4_300) (omega arith), add-sub_of_le h)
 
-factor_within : (t u : Bool) → (845_570 ≤ factor t u) × (factor t u ≤ 900_000)
+pub factor_within : (t u : Bool) → (845_570 ≤ factor t u) × (factor t u ≤ 900_000)
 factor_within true u = (omega arith, omega arith)
 factor_within false true = (omega arith, omega arith)
 factor_within false false = (omega arith, omega arith)

@@ -1,8 +1,11 @@
-// The heat table of document 02's Job 9: for each heat from 4,300 to 6,000 the numerator of step 2 of the coal price.
+// Heat tables: that of document 02's Job 9, for each heat from 4,300 to 6,000 the numerator of step 2 of the coal price, and any that is lent in its place (Job 10).
 #![tactic(auto)]
 
 ghost use Rattle.std.specs.Prelude.{◌≡◌, ◌≤◌};
-ghost use Rattle.heats.specs.Numerators.{numerator, heat_table};
+ghost use Rattle.heats.specs.HeatTables.{IsHeatTable, entry_of};
+ghost use Rattle.heats.specs.Numerators.{heat_table};
+
+use std::marker::Model;
 
 // "1,701 entries over the common denominator 4,950,000,000", "lowest heat first": those of heats 4,300 to 6,000.
 const NUMERATORS: [u64; 1_701] = [
@@ -1720,12 +1723,60 @@ pub fn numerators() -> &'static [u64; 1_701]
     &NUMERATORS
 }
 
-// The numerator of a heat, from the table.
-#[tactic(auto, using(crate::specs::Numerators::entry))]
-pub fn numerator(e: u64) -> u64
-    requires le_e { 4_300 ≤ e }
-    requires e_bound { e ≤ 6_000 }
-    ensures { result ≡ numerator e }
+// A heat table, lent: a port's own or the printed one. A clause sees its entries.
+#[derive(Drop)]
+pub struct HeatTable<'t> {
+    entries: &'t [u64; 1_701],
+}
+
+impl<'t> Model for HeatTable<'t> {
+    ghost use Rattle.std.specs.Prelude.{List, ℕ};
+    ghost use Rattle.heats.specs.HeatTables.{IsHeatTable};
+
+    ghost Value = { List ℕ };
+
+    ghost view = { λ table. table.entries.now };
+
+    ghost invariant = { λ table. IsHeatTable table.entries.now };
+}
+
+impl<'t> HeatTable<'t> {
+    // A table of these entries.
+    pub fn new(entries: &'t [u64; 1_701]) -> HeatTable<'t>
+        requires { IsHeatTable entries.now }
+        ensures { result ≡ entries.now }
+    {
+        HeatTable { entries }
+    }
+
+    // The same table, lent on: to each book that is opened with it.
+    pub fn lend(&self) -> HeatTable<'t>
+        ensures same { result ≡ self.now }
+        ensures table { IsHeatTable self.now }
+    {
+        HeatTable {
+            entries: self.entries,
+        }
+    }
+
+    // The entry of a heat.
+    pub fn entry(&self, e: u64) -> u64
+        requires le_e { 4_300 ≤ e }
+        requires e_bound { e ≤ 6_000 }
+        ensures entry { result ≡ entry_of self.now e }
+        ensures table { IsHeatTable self.now }
+        ensures few { result ≤ 5_400_000_000 }
+    {
+        self.entries[(e - 4_300) as usize]
+    }
+}
+
+// The printed table, lent: "Job 9's if none was loaded".
+#[tactic(auto, using(crate::proofs::Rising::printed_table))]
+pub fn printed() -> HeatTable<'static>
+    ensures { result ≡ heat_table }
 {
-    numerators()[(e - 4_300) as usize]
+    HeatTable {
+        entries: numerators(),
+    }
 }

@@ -13,8 +13,8 @@ use payments::{Faults, ValuedMatch, charge, pay, punish, set_stage};
 
 // ---- Measure
 
-// "works out amount B" and beside it the kilograms over: of P the match's price, H its declared heat, the settled weight of its cargo, "D = units × T × 1,000 kg", and the measured quality.
-#[tactic(auto, using(coal::proofs::laws::Bounds::coal_weight_most, coal::proofs::laws::Bounds::coal_price_most), unfolding(book::specs::Settlement::amount_due))]
+// "works out amount B" and beside it the kilograms over: by the book's heat table, of P the match's price, H its declared heat, the settled weight of its cargo, "D = units × T × 1,000 kg", and the measured quality.
+#[tactic(auto, using(coal::proofs::laws::Bounds::coal_weight_most), unfolding(book::specs::Settlement::amount_due))]
 fn amount_due(book: &Book, m: &ValuedMatch, sample: &Sample) -> (Amount, u64)
     requires { Due book.now m.now }
     ensures amount { result.0 ≡ amount_due book.now m.now.row sample.now.weight sample.now.quality.heat sample.now.moisture sample.now.quality.sulphur sample.now.quality.volatiles sample.now.quality.ash }
@@ -23,7 +23,12 @@ fn amount_due(book: &Book, m: &ValuedMatch, sample: &Sample) -> (Amount, u64)
     let cargo = m.row.units as u64 * book.tonnes * 1_000;
     let loaded = coal::weight(cargo, sample.weight, sample.moisture);
     let heat = m.row.heat.unwrap_or(0);
-    let price = coal::price(m.row.price as u64, heat as u64, &sample.quality);
+    let price = coal::price(
+        &book.heats,
+        m.row.price as u64,
+        heat as u64,
+        &sample.quality,
+    );
     let amount = Amount {
         fen: coal::amount(price, loaded.settled),
     };

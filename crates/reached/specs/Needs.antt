@@ -1,8 +1,9 @@
 -- What the code of a call asks of a reached book, to the number what the code asks: rules of `search calls`. Assumes nothing.
-use Rattle.std.specs.Prelude.{◌≡◌, Result, Ok, ℕ, ◌+◌, ◌*◌, ◌≤◌, ◌<◌, nat_abs}
+use Rattle.std.specs.Prelude.{◌≡◌, List, Result, Ok, ℕ, ◌+◌, ◌*◌, ◌≤◌, ◌<◌, nat_abs}
 use Rattle.std.proofs.Common.{ap, refl, arith, rules, le-ltb, lt-ltb, le-leb, eq-eqb, ne_eqb, Fits}
 use Rattle.std.proofs.lemmas.Bool.{lt-leb}
 use Rattle.std.specs.Int.{w64}
+use Rattle.heats.specs.HeatTables.{IsHeatTable}
 use Rattle.book.specs.declared.tables.Book.{Book}
 use Rattle.book.specs.Tables.{account_at, match_at}
 use Rattle.book.specs.declared.calls.Call.{Call}
@@ -16,8 +17,8 @@ use Rattle.book.proofs.laws.Sound.{Sound}
 use Rattle.book.proofs.laws.Reaching.{sound}
 
 -- what an accepted opening makes is reached
-pub begun : {b : Book} (kind t r p : ℕ) → accept 0 b ≡ opening kind t r p → Reached b
-begun kind t r p e = rw (ap (λ (o : Outcome). o.book) e) (opened kind t r p (rw (← e) refl))
+pub begun : {b : Book} (heats : List ℕ) → IsHeatTable heats → (kind t r p : ℕ) → accept 0 b ≡ opening heats kind t r p → Reached b
+begun heats s kind t r p e = rw (ap (λ (o : Outcome). o.book) e) (opened heats s kind t r p (rw (← e) refl))
 
 -- what a call leaves is reached, accepted or refused
 pub left_by : {b b' : Book} (r : Result ℕ Refusal) (c : Call) → Reached b → outcome r b' ≡ step b c → Reached b'

@@ -1,12 +1,16 @@
-// Replays stored sessions and compares every byte: the arguments are the names of an input and of its output, in turn; an output `NAME.page` is the page of the book after the session.
+// Replays stored sessions and compares every byte: the arguments are the names of a heat table's file, of an input and of its output, in turn; the table `printed` is the printed one, and an output `NAME.page` is the page of the book after the session.
 #![tactic(auto)]
 
+use loading::PortTable;
 use std::fs::File;
 use std::io::Read;
 use std::{env, io};
 
 // One byte more than an input may have, which shows that it is longer.
 const INPUT: u64 = 65_537;
+
+// One byte more than a heat table's file has.
+const TABLE: u64 = 13_617;
 
 // Room for the output of every session.
 const OUTPUT: usize = 848_427;
@@ -29,37 +33,42 @@ fn load(rt: &HostRuntime, name: &str, most: u64) -> Vec<u8> {
     }
 }
 
-// Whether the session of an input gives the output that is stored for it.
-fn agrees(rt: &HostRuntime, input_name: &str, output_name: &str) -> bool {
-    let input = load(rt, input_name, INPUT);
+// Whether the session of an input with a heat table gives the output that is stored for it: `no 31` where the table is refused.
+fn agrees(rt: &HostRuntime, table_name: &str, input_name: &str, output_name: &str) -> bool {
     let stored = load(rt, output_name, OUTPUT as u64);
+    let mut table = PortTable::printed();
+    if table_name != "printed" && table.load(&load(rt, table_name, TABLE)).is_err() {
+        return stored[..] == b"no 31\n"[..];
+    }
+    let input = load(rt, input_name, INPUT);
     let mut out = filling::buffer::<OUTPUT>();
     // What the C interface serves writes into a lent buffer, and answers how many bytes.
     let r = if output_name.ends_with(".page") {
-        session::page(&input, &mut out).unwrap_or(0)
+        session::page(&table.lend(), &input, &mut out).unwrap_or(0)
     } else {
-        session::session(&input, &mut out)
+        session::session(&table.lend(), &input, &mut out)
     };
     out[..r] == stored[..]
 }
 
-// One of the names of a pair; "" where it is missing.
-fn name_at(pair: &[String], place: usize) -> &str {
-    pair.get(place).map_or("", |name| name.as_str())
+// One of the names of a session; "" where it is missing.
+fn name_at(names: &[String], place: usize) -> &str {
+    names.get(place).map_or("", |name| name.as_str())
 }
 
-// Whether the session that two names give agrees; its name on a line where it does not.
-fn replayed(rt: &HostRuntime, pair: &[String]) -> bool {
-    let input_name = name_at(pair, 0);
-    let same = agrees(rt, input_name, name_at(pair, 1));
+// Whether the session that three names give agrees; its names on a line where it does not.
+fn replayed(rt: &HostRuntime, names: &[String]) -> bool {
+    let table_name = name_at(names, 0);
+    let output_name = name_at(names, 2);
+    let same = agrees(rt, table_name, name_at(names, 1), output_name);
     if !same {
-        let _ = println!(rt; "{input_name} differs");
+        let _ = println!(rt; "{table_name} {output_name} differs");
     }
     same
 }
 
 fn main(rt: HostRuntime) -> io::Result<()> {
     let names: Vec<String> = env::args(&rt)?.skip(1).collect(rt.alloc())?;
-    let agreed = names.chunks(2).filter(|pair| replayed(&rt, pair)).count();
+    let agreed = names.chunks(3).filter(|names| replayed(&rt, names)).count();
     println!(rt; "{agreed} outputs agree")
 }

@@ -1,6 +1,7 @@
 -- The page of the book after a session, in a lent buffer, and the room that is enough for it. Assumes nothing.
 use Rattle.std.specs.Prelude.{◌≡◌, Bool, true, false, List, [], ◌∷◌, ◌++◌, ℕ, ◌≤◌, ◌<◌, ltb, length, take, drop, Option, Some, None, IfSome, Result, Ok, Err}
 use Rattle.std.proofs.Common.{refl, sym, ◌∙◌, arith, lt-ltb, le-ltb, length-append, length-take-le}
+use Rattle.heats.specs.HeatTables.{IsHeatTable}
 use Rattle.coal.specs.Choice.{pick}
 use Rattle.book.specs.declared.tables.Book.{Book}
 use Rattle.book.specs.Outcomes.{Answer, Outcome}
@@ -65,9 +66,9 @@ page_counted b before r o e f g = go r refl (ltb (length before) (length (page b
 abbrev Short : Outcome → Type 0
 Short o = length (answer_line o.answer) ≤ 24
 
-opening_short : (kind t r p : ℕ) → Short (opening kind t r p)
+opening_short : (heats : List ℕ) (kind t r p : ℕ) → Short (opening heats kind t r p)
 unfolding opening spaced digits last_digits
-opening_short kind t r p =
+opening_short heats kind t r p =
     by_pick Short (ltb 1 kind) (λ _. omega arith)
     (λ _. by_pick Short (ltb t 1) (λ _. omega arith)
     (λ _. by_pick Short (ltb 20_000 t) (λ _. omega arith)
@@ -75,55 +76,55 @@ opening_short kind t r p =
     (λ _. by_pick Short (ltb p 1) (λ _. omega arith)
     (λ _. by_pick Short (ltb 1_000_000 p) (λ _. omega arith) (λ _. omega arith))))))
 
-first_short : (ls : List (List ℕ)) → Short (first ls)
+first_short : (heats : List ℕ) (ls : List (List ℕ)) → Short (first heats ls)
 unfolding spaced digits last_digits
-first_short [] = omega arith
-first_short (l ∷ ls) = go (opening_line_of l)
+first_short heats [] = omega arith
+first_short heats (l ∷ ls) = go (opening_line_of l)
   where
-    go : (o : Result Opening BadLine) → Short (opened o)
+    go : (o : Result Opening BadLine) → Short (opened heats o)
     go (Err e) = omega arith
-    go (Ok o) = opening_short o.kind o.tonnes o.rate o.price
+    go (Ok o) = opening_short heats o.kind o.tonnes o.rate o.price
 
-line_one_short : (s : List ℕ) → Short (line_one s)
+line_one_short : (heats s : List ℕ) → Short (line_one heats s)
 unfolding line_one spaced digits last_digits
-line_one_short s = by_pick Short (ltb 65_536 (length s)) (λ _. omega arith) (λ _. first_short (lines s))
+line_one_short heats s = by_pick Short (ltb 65_536 (length s)) (λ _. omega arith) (λ _. first_short heats (lines s))
 
-outcome_short : (s : List ℕ) → Short (outcome s)
+outcome_short : (heats s : List ℕ) → Short (outcome heats s)
 unfolding outcome spaced digits last_digits
-outcome_short s = by_pick Short (is_accepted (line_one s).answer) (λ _. omega arith) (λ _. line_one_short s)
+outcome_short heats s = by_pick Short (is_accepted (line_one heats s).answer) (λ _. omega arith) (λ _. line_one_short heats s)
 
 -- and no page of a reached book is longer than the longest
-page_fits : (s : List ℕ) → length (page_output s) ≤ page_room
+page_fits : (heats : List ℕ) → IsHeatTable heats → (s : List ℕ) → length (page_output heats s) ≤ page_room
 unfolding page_output
-page_fits s = by_pick (λ (t : List ℕ). length t ≤ page_room) (is_accepted (outcome s).answer)
-    (λ a. let h = outcome_led s a in omega (arith, page_length h, (few h).0, (few h).1, (few h).2))
-    (λ _. omega (arith, outcome_short s))
+page_fits heats i s = by_pick (λ (t : List ℕ). length t ≤ page_room) (is_accepted (outcome heats s).answer)
+    (λ a. let h = outcome_led heats i s a in omega (arith, page_length h, (few h).0, (few h).1, (few h).2))
+    (λ _. omega (arith, outcome_short heats s))
 
 -- ---- what the function promises
 
 -- who gives the count and leaves the buffer as they are meant has done it
-module _ {s before out : List ℕ} {r : Option ℕ} where
-  paged : (t : List ℕ) → page_output s ≡ t → (r ≡ lent_count t before) × (out ≡ lent t before) → Paged s before out r
+module _ {heats s before out : List ℕ} {r : Option ℕ} (i : IsHeatTable heats) where
+  paged : (t : List ℕ) → page_output heats s ≡ t → (r ≡ lent_count t before) × (out ≡ lent t before) → Paged heats s before out r
   paged t e p =
-      let count : r ≡ lent_count (page_output s) before = rw e p.0 in
+      let count : r ≡ lent_count (page_output heats s) before = rw e p.0 in
       let within : IfSome r (λ n. n ≤ length out) = rw (p.0, p.1) (lent_within t before) in
       record {
         within = within;
         counted = taken r within;
         count = count;
         text = rw e p.1;
-        enough = λ g. count ∙ lent_all (page_output s) before (omega (arith, page_fits s));
-        demanded = demanded (lines s);
+        enough = λ g. count ∙ lent_all (page_output heats s) before (omega (arith, page_fits heats i s));
+        demanded = demanded heats i (lines s);
       }
     where
       taken : (o : Option ℕ) → IfSome o (λ n. n ≤ length out) → IfSome o (λ n. n ≡ length (take n out))
       taken None h = tt
       taken (Some n) h = sym (length-take-le n out h)
 
-  pub page_paged : {b : Book} → accept 0 b ≡ outcome s → (r ≡ lent_count (page b) before) × (out ≡ lent (page b) before) → Paged s before out r
+  pub page_paged : {b : Book} → accept 0 b ≡ outcome heats s → (r ≡ lent_count (page b) before) × (out ≡ lent (page b) before) → Paged heats s before out r
   unfolding page_output
   page_paged {b = b} e p = paged (page b) (rw (← e)) p
 
-  pub line_paged : {n : ℕ} → refuse n no_book ≡ outcome s → (r ≡ lent_count (answer_line (Answer.Refused n)) before) × (out ≡ lent (answer_line (Answer.Refused n)) before) → Paged s before out r
+  pub line_paged : {n : ℕ} → refuse n no_book ≡ outcome heats s → (r ≡ lent_count (answer_line (Answer.Refused n)) before) × (out ≡ lent (answer_line (Answer.Refused n)) before) → Paged heats s before out r
   unfolding page_output
   line_paged {n} e p = paged (answer_line (Answer.Refused n)) (rw (← e)) p

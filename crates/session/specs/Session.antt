@@ -1,4 +1,4 @@
--- The session program: from the bytes of its input to the bytes of its output. Assumes nothing.
+-- The session program: from the bytes of its input to the bytes of its output, with a heat table, a loaded one or the printed one. Assumes nothing.
 use Rattle.std.specs.Prelude.{◌≡◌, true, List, [], ◌∷◌, ◌++◌, ℕ, ◌≤◌, ltb, length, take, drop, Result, Ok, Err}
 use Rattle.coal.specs.Choice.{pick}
 use Rattle.book.specs.declared.tables.Book.{Book}
@@ -21,38 +21,38 @@ told b ls = answers b ls ++ ledger (after b (calls_of ls))
 -- ---- line one
 
 -- "Line one is `0 kind T R price`"; "26 a line not of the form"
-abbrev pub opened : Result Opening BadLine → Outcome
-opened (Ok o) = opening o.kind o.tonnes o.rate o.price
-opened (Err e) = refuse 26 no_book
+abbrev pub opened : List ℕ → Result Opening BadLine → Outcome
+opened heats (Ok o) = opening heats o.kind o.tonnes o.rate o.price
+opened heats (Err e) = refuse 26 no_book
 
 -- the first line of an input, and the later ones; "Empty input prints `no 26`"
-abbrev pub first : List (List ℕ) → Outcome
-first [] = refuse 26 no_book
-first (l ∷ ls) = opened (opening_line_of l)
+abbrev pub first : List ℕ → List (List ℕ) → Outcome
+first heats [] = refuse 26 no_book
+first heats (l ∷ ls) = opened heats (opening_line_of l)
 
 abbrev pub later : List (List ℕ) → List (List ℕ)
 later [] = []
 later (l ∷ ls) = ls
 
 -- line one's outcome; "input above 65,536 bytes (refused whole, as empty input is)"
-unfoldable pub line_one : List ℕ → Outcome
-line_one s = pick (ltb 65_536 (length s)) (refuse 26 no_book) (first (lines s))
+unfoldable pub line_one : List ℕ → List ℕ → Outcome
+line_one heats s = pick (ltb 65_536 (length s)) (refuse 26 no_book) (first heats (lines s))
 
 -- ---- the whole
 
 -- line one prints "(opening: `ok 0`)"; "a refused line one ends the output with its `no n`, and no ledger follows"
-unfoldable pub session : List ℕ → List ℕ
-session s = answer_line (line_one s).answer ++ pick (is_accepted (line_one s).answer) (told (line_one s).book (later (lines s))) []
+unfoldable pub session : List ℕ → List ℕ → List ℕ
+session heats s = answer_line (line_one heats s).answer ++ pick (is_accepted (line_one heats s).answer) (told (line_one heats s).book (later (lines s))) []
 
 -- line one's answer and, where that is accepted, the book after the later lines' calls
-unfoldable pub outcome : List ℕ → Outcome
-outcome s = pick (is_accepted (line_one s).answer) (accept 0 (after (line_one s).book (calls_of (later (lines s))))) (line_one s)
+unfoldable pub outcome : List ℕ → List ℕ → Outcome
+outcome heats s = pick (is_accepted (line_one heats s).answer) (accept 0 (after (line_one heats s).book (calls_of (later (lines s))))) (line_one heats s)
 
 -- ---- demand 3, of the calls that a session ran
 
 -- the calls of an input's later lines, from the book of its line one where that is accepted
-abbrev pub Demanded : List (List ℕ) → Type 0
-Demanded ls = is_accepted (first ls).answer ≡ true → Holds (first ls).book (calls_of (later ls)) (after (first ls).book (calls_of (later ls)))
+abbrev pub Demanded : List ℕ → List (List ℕ) → Type 0
+Demanded heats ls = is_accepted (first heats ls).answer ≡ true → Holds (first heats ls).book (calls_of (later ls)) (after (first heats ls).book (calls_of (later ls)))
 
 -- ---- what the functions promise
 
@@ -61,9 +61,9 @@ abbrev pub room : ℕ
 room = 848_427
 
 -- the first r bytes of the output are the session's, and those after them are as before; and demand 3 holds of the calls that it ran
-pub record Delivered (input before out : List ℕ) (r : ℕ) : Type 0 where
+pub record Delivered (heats input before out : List ℕ) (r : ℕ) : Type 0 where
   pub within : r ≤ length out
   pub counted : r ≡ length (take r out)
-  pub text : take r out ≡ session input
+  pub text : take r out ≡ session heats input
   pub kept : drop r out ≡ drop r before
-  pub demanded : Demanded (lines input)
+  pub demanded : Demanded heats (lines input)

@@ -1,4 +1,4 @@
-// A session: from the bytes of its input to the bytes of its output, or to the page of the book after it.
+// A session with a heat table: from the bytes of its input to the bytes of its output, or to the page of the book after it.
 #![tactic(auto)]
 
 ghost use Rattle.std.specs.Prelude.{◌≡◌, ◌≤◌, IfOk, length};
@@ -13,11 +13,12 @@ ghost use Rattle.session.specs.Session.{line_one, later, session, outcome, room,
 ghost use Rattle.session.specs.Paging.{lent_count, Paged};
 
 use book::{Month, Refusal};
+use heats::HeatTable;
 use text::Printer;
 
 // "Line one is `0 kind T R price`": the month that it opens.
-fn line_one(input: &[u8]) -> Result<Month, Refusal>
-    ensures opened { opened result ≡ line_one input.now }
+fn line_one<'t>(heats: &HeatTable<'t>, input: &[u8]) -> Result<Month<'t>, Refusal>
+    ensures opened { opened result ≡ line_one heats.now input.now }
     ensures short { IfOk result (λ _. length input.now ≤ 65_536) }
 {
     if 65_536 < input.len() {
@@ -25,7 +26,7 @@ fn line_one(input: &[u8]) -> Result<Month, Refusal>
     }
     let line = &input[..reader::line_length(input)];
     let terms = reader::read_opening(line)?;
-    accounts::opening(&terms)
+    accounts::opening(heats, &terms)
 }
 
 // The lines after line one.
@@ -38,11 +39,11 @@ fn later_lines(input: &[u8]) -> &[u8]
 
 // The output of a session: the answer to line one and, where that is accepted, those to the later lines, "Then the ledger".
 #[tactic(auto, using(text::proofs::Columns::few))]
-fn print_session(printer: &mut Printer, input: &[u8])
+fn print_session(printer: &mut Printer, heats: &HeatTable, input: &[u8])
     requires { HasRoom printer.old room }
-    ensures { Prints printer.old printer.new (session input.now) }
+    ensures { Prints printer.old printer.new (session heats.now input.now) }
 {
-    match line_one(input) {
+    match line_one(heats, input) {
         Ok(mut month) => {
             printer.answer(Ok(0));
             running::print_run(&mut month, later_lines(input), printer);
@@ -54,26 +55,27 @@ fn print_session(printer: &mut Printer, input: &[u8])
 
 // "It reads standard input": the output of a session, for every input, written from the start of `out`; how many bytes it has.
 #[tactic(auto, using(crate::proofs::Starting::delivered))]
-pub fn session(input: &[u8], out: &mut [u8]) -> usize
+pub fn session(heats: &HeatTable, input: &[u8], out: &mut [u8]) -> usize
     requires { room ≤ length out.old }
-    ensures { Delivered input.now out.old out.new result }
+    ensures { Delivered heats.now input.now out.old out.new result }
 {
     let mut printer = Printer::new(out);
-    print_session(&mut printer, input);
+    // Lent on, since `lend` promises that it is a heat table, as demand 3 asks.
+    print_session(&mut printer, &heats.lend(), input);
     printer.at
 }
 
 // The month after a session; nothing is printed.
-fn outcome(input: &[u8]) -> Result<Month, Refusal>
-    ensures { opened result ≡ outcome input.now }
+fn outcome<'t>(heats: &HeatTable<'t>, input: &[u8]) -> Result<Month<'t>, Refusal>
+    ensures { opened result ≡ outcome heats.now input.now }
 {
-    let mut month = line_one(input)?;
+    let mut month = line_one(heats, input)?;
     running::run(&mut month, later_lines(input));
     Ok(month)
 }
 
 // A refusal's line, at the front of a lent buffer: how many bytes it has; none, and nothing is written, where the buffer is too short. Printed apart first, as nothing is written where it does not fit.
-fn lend_refusal(out: &mut [u8], refusal: Refusal) -> Option<usize>
+pub fn lend_refusal(out: &mut [u8], refusal: Refusal) -> Option<usize>
     ensures count { result ≡ lent_count (answer_line (Answer.Refused (refusal_number refusal))) out.old }
     ensures text { out.new ≡ lent (answer_line (Answer.Refused (refusal_number refusal))) out.old }
 {
@@ -89,10 +91,11 @@ fn lend_refusal(out: &mut [u8], refusal: Refusal) -> Option<usize>
 }
 
 // What the page program prints, at the front of a lent buffer: how many bytes it has; none, and nothing is written, where the buffer is too short.
-pub fn page(input: &[u8], out: &mut [u8]) -> Option<usize>
-    ensures { Paged input.now out.old out.new result }
+pub fn page(heats: &HeatTable, input: &[u8], out: &mut [u8]) -> Option<usize>
+    ensures { Paged heats.now input.now out.old out.new result }
 {
-    match outcome(input) {
+    // Lent on, as in `session`.
+    match outcome(&heats.lend(), input) {
         Ok(month) => columns::put_page(out, &month).ok(),
         Err(refusal) => lend_refusal(out, refusal),
     }

@@ -6,6 +6,7 @@ use mathlib.Core.Bool.{true, false}
 use mathlib.Core.List.{[], ◌∷◌, ◌++◌, map}
 use lib.IntN.{pos, negsuc}
 use lib.ListN.{replicate}
+use Rattle.heats.specs.Numerators.{heat_table}
 use Rattle.book.specs.declared.receipts.ReceiptState.{ReceiptState}
 use Rattle.book.specs.declared.accounts.Side.{Side}
 use Rattle.book.specs.declared.matches.Stage.{Stage}
@@ -27,6 +28,7 @@ worked =
       board = false;
       tonnes = 5;
       rate = 20;
+      heats = heat_table;
       price = 610_000;
       day = 1;
       «open» = false;

@@ -1,6 +1,6 @@
 -- The refusals of all eighteen calls, gone through once: a call is refused and leaves the book, or it is accepted, none of its conditions applies,
 -- and it leaves the book that its rule says. A law of single calls goes by cases on this. Assumes nothing.
-use Rattle.std.specs.Prelude.{◌≡◌, refl, Bool, true, false, not, ◌&&◌, ℕ, ◌+◌, ◌-◌, ◌≤◌, ◌<◌, ltb, pos, Option, Some, None}
+use Rattle.std.specs.Prelude.{◌≡◌, List, refl, Bool, true, false, not, ◌&&◌, ℕ, ◌+◌, ◌-◌, ◌≤◌, ◌<◌, ltb, pos, Option, Some, None}
 use Rattle.std.proofs.Common.{sym, ap, ◌∙◌, arith, ltb-true, ltb-false, leb-false, eqb-true}
 use Rattle.std.proofs.lemmas.Bool.{eqb-false, not-false}
 use Rattle.std.specs.Int.Signed.{lt_z}
@@ -17,6 +17,9 @@ use Rattle.book.specs.Offers.{declare, offer, retract, take_offer, end_offer}
 use Rattle.book.specs.Closing.{close, all_passes, lapse_offers}
 use Rattle.book.specs.Settlement.{value, set_stage, pay_match, paid, buyer_fault, seller_fault, measure, measured, cargo, amount_due, invoice, terminate, terminated, hand_over, handed, auction, auctioned}
 use Rattle.book.specs.Calls.{step}
+use Rattle.heats.specs.HeatTables.{IsHeatTable}
+use Rattle.heats.specs.Numerators.{heat_table}
+use Rattle.heats.proofs.Rising.{printed_table}
 use Rattle.book.proofs.laws.Counting.{impossible}
 
 -- ---- what an accepted call has met
@@ -369,11 +372,11 @@ module _ (b : Book) where
 -- ---- the opening
 
 -- what an opening leaves, accepted or not, is a fresh book within the ranges
-pub of_opening : (P : Book → Type 0) → ((board : Bool) (t r p : ℕ) → 1 ≤ t → t ≤ 20_000 → r ≤ 100 → 1 ≤ p → p ≤ 1_000_000 → P (fresh board t r p))
-    → (kind t r p : ℕ) → P (opening kind t r p).book
+pub of_opening : (P : Book → Type 0) → ((heats : List ℕ) → IsHeatTable heats → (board : Bool) (t r p : ℕ) → 1 ≤ t → t ≤ 20_000 → r ≤ 100 → 1 ≤ p → p ≤ 1_000_000 → P (fresh heats board t r p))
+    → (heats : List ℕ) → IsHeatTable heats → (kind t r p : ℕ) → P (opening heats kind t r p).book
 unfolding opening
-of_opening P h kind t r p = search (passed, h, ltb-false, arith) depth 12
+of_opening P h heats s kind t r p = search (passed, h, ltb-false, arith) depth 12
   where
     passed : (t : Bool) (o : Outcome) → (t ≡ false → P o.book) → P (refuse_if t 1 no_book o).book
-    passed true o g = h false 1 0 1 (omega arith) (omega arith) (omega arith) (omega arith) (omega arith)
+    passed true o g = h heat_table printed_table false 1 0 1 (omega arith) (omega arith) (omega arith) (omega arith) (omega arith)
     passed false o g = g refl

@@ -4,6 +4,7 @@ use Rattle.std.specs.Prelude.{◌≡◌, refl, Bool, List, [], ◌∷◌, ℕ, z
 use Rattle.std.proofs.Common.{ap, ◌∙◌, arith}
 use Rattle.coal.specs.Choice.{pick}
 use Rattle.whole.specs.Whole.{natAbs_sum, natAbs_paid}
+use Rattle.heats.specs.HeatTables.{IsHeatTable}
 use Rattle.book.specs.Types.{Stage, Account, Match, Book}
 use Rattle.book.specs.Counting.{sum}
 use Rattle.book.specs.Rows.{blank_account, debited}
@@ -87,12 +88,12 @@ blank_cash zero k = refl
 blank_cash (suc n) zero = refl
 blank_cash (suc n) (suc k) = blank_cash n k
 
-opening_bounded : (kind t r p : ℕ) → Bounded (opening kind t r p).book
+opening_bounded : (heats : List ℕ) → IsHeatTable heats → (kind t r p : ℕ) → Bounded (opening heats kind t r p).book
 unfolding stages sum
-opening_bounded = of_opening Bounded (λ board t r p g₁ g₂ g₃ g₄ g₅. record { cash = λ k. rw (blank_cash 32 k) (omega arith); fund = omega arith; blank = λ k n. blank_cash 32 k })
+opening_bounded = of_opening Bounded (λ heats s board t r p g₁ g₂ g₃ g₄ g₅. record { cash = λ k. rw (blank_cash 32 k) (omega arith); fund = omega arith; blank = λ k n. blank_cash 32 k })
 
 pub bounded : {b : Book} → Reached b → Bounded b
-bounded (opened kind t r p h) = opening_bounded kind t r p
+bounded (opened heats s kind t r p h) = opening_bounded heats s kind t r p
 bounded (called {b = b} c h) = let r = reached_tables h in change_bounded b r (bounded h) (changed b c r)
 
 rank_few : (s : Stage) → rank s ≤ 3

@@ -1,9 +1,10 @@
 -- The opening and the calls that neither pair nor settle keep the tables sound: one short lemma for each accepted call. Assumes nothing.
-use Rattle.std.specs.Prelude.{◌≡◌, refl, ◌≢◌, Bool, true, false, [], ◌∷◌, ℕ, ◌+◌, ◌≤◌, ◌<◌, eqb, pos, neg_ℤ, length, Option, Some, None}
+use Rattle.std.specs.Prelude.{◌≡◌, refl, ◌≢◌, Bool, true, false, List, [], ◌∷◌, ℕ, ◌+◌, ◌≤◌, ◌<◌, eqb, pos, neg_ℤ, length, Option, Some, None}
 use Rattle.std.proofs.Common.{sym, arith, eqb-true, ltb-false, get_or-set_other}
 use Rattle.std.proofs.lemmas.Bool.{eqb-false}
 use Rattle.coal.specs.Choice.{pick}
 use Rattle.std.proofs.lemmas.List.{length-replicate}
+use Rattle.heats.specs.HeatTables.{IsHeatTable}
 use Rattle.book.specs.Types.{Side, ReceiptState, Lots, Account, Book}
 use Rattle.book.specs.Rows.{blank_account, blank_receipt, blank_match, is_short, short_units, with_heat, with_offer, with_state, lots_on, needs_fifth, units_on}
 use Rattle.book.specs.Tables.{account_at, receipt_at, add_account, add_receipt, put_account, put_receipt, with_day, with_deposited, pay, charge}
@@ -20,10 +21,10 @@ use Rattle.book.proofs.laws.Posting.{Posted, posted_none, post, posted_accounts,
 
 -- ---- the opening
 
-fresh_tables : (board : Bool) (t r p : ℕ) → 1 ≤ t → t ≤ 20_000 → r ≤ 100 → 1 ≤ p → p ≤ 1_000_000 → SoundTables (fresh board t r p)
-fresh_tables board t r p a b c d e = record {
+fresh_tables : (heats : List ℕ) → IsHeatTable heats → (board : Bool) (t r p : ℕ) → 1 ≤ t → t ≤ 20_000 → r ≤ 100 → 1 ≤ p → p ≤ 1_000_000 → SoundTables (fresh heats board t r p)
+fresh_tables heats s board t r p a b c d e = record {
   core = record {
-    terms = record { tonnes_some = a; tonnes_few = b; rate_few = c; price_some = d; price_few = e; day_few = omega arith; deposits_few = omega arith };
+    terms = record { tonnes_some = a; tonnes_few = b; rate_few = c; heat_table = s; price_some = d; price_few = e; day_few = omega arith; deposits_few = omega arith };
     accounts = record { size = length-replicate 32 blank_account; few = omega arith; rows = λ k h. absurd (omega arith) };
     matches = record { size = length-replicate 256 blank_match; few = omega arith; rows = λ k h. absurd (omega arith) };
     receipts = record { size = length-replicate 256 blank_receipt; few = omega arith; none = λ h. refl; rows = λ k h. absurd (omega arith); no_more = λ k h. absurd (omega arith) };
@@ -33,7 +34,7 @@ fresh_tables board t r p a b c d e = record {
   matches_open = λ h. omega arith;
 }
 
-pub opening_tables : (kind t r p : ℕ) → SoundTables (opening kind t r p).book
+pub opening_tables : (heats : List ℕ) → IsHeatTable heats → (kind t r p : ℕ) → SoundTables (opening heats kind t r p).book
 opening_tables = of_opening SoundTables fresh_tables
 
 -- ---- the calls

@@ -20,16 +20,16 @@ frozen e r i j h q =
 
 pub demand_3 : Demand3
 unfolding frozen_receipts
-demand_3 kind t r p a cs =
-    let b = (opening kind t r p).book in
-    let s = opening_tables kind t r p in
-    let e = after_tables b cs s in
+demand_3 heats s kind t r p a cs =
+    let b = (opening heats kind t r p).book in
+    let o = opening_tables heats s kind t r p in
+    let e = after_tables b cs o in
     record {
-      money = money kind t r p a cs;
-      traded = all_traded kind t r p cs;
-      balanced = balanced kind t r p cs;
-      entered = λ k h. entered kind t r p a cs k;
+      money = money heats s kind t r p a cs;
+      traded = all_traded heats s kind t r p cs;
+      balanced = balanced heats s kind t r p cs;
+      entered = λ k h. entered heats s kind t r p a cs k;
       frozen = frozen (after b cs) e;
       no_more = e.core.receipts.no_more;
-      closed = λ front back q h. first_pass_holds (after b front) (after_tables b front s) h;
+      closed = λ front back q h. first_pass_holds (after b front) (after_tables b front o) h;
     }

@@ -29,7 +29,7 @@ use Rattle.book.proofs.laws.Taking.{take_pairable}
 unfoldable pub stages : Book → ℕ
 stages b = sum b.match_count 0 (λ j. rank (match_at b j).stage)
 
--- ---- no money moves from b to e
+-- ---- no money moves from b to e, and its heat table is as it was
 
 pub record Kept (b e : Book) : Type 0 where
   pub count : e.account_count ≡ b.account_count
@@ -38,14 +38,15 @@ pub record Kept (b e : Book) : Type 0 where
   pub stages : stages e ≡ stages b
   pub fund : e.fund ≡ b.fund
   pub deposited : e.deposited ≡ b.deposited
+  pub heats : e.heats ≡ b.heats
 
 kept_then : {b c e : Book} → Kept b c → Kept c e → Kept b e
-kept_then h g = record { count = g.count ∙ h.count; cash = λ k. g.cash k ∙ h.cash k; held = g.held ∙ h.held; stages = g.stages ∙ h.stages; fund = g.fund ∙ h.fund; deposited = g.deposited ∙ h.deposited }
+kept_then h g = record { count = g.count ∙ h.count; cash = λ k. g.cash k ∙ h.cash k; held = g.held ∙ h.held; stages = g.stages ∙ h.stages; fund = g.fund ∙ h.fund; deposited = g.deposited ∙ h.deposited; heats = g.heats ∙ h.heats }
 
 -- other receipts, another day, an open or shut market
 kept_frame : (b : Book) (l : List Receipt) (n p d : ℕ) (o : Bool) → Kept b (with_open (with_day (with_receipts b l n) p d) o)
 unfolding total_held stages
-kept_frame b l n p d o = record { count = refl; cash = λ k. refl; held = refl; stages = refl; fund = refl; deposited = refl }
+kept_frame b l n p d o = record { count = refl; cash = λ k. refl; held = refl; stages = refl; fund = refl; deposited = refl; heats = refl }
 
 kept_receipts : (b : Book) (l : List Receipt) (n : ℕ) → Kept b (with_receipts b l n)
 kept_receipts b l n = kept_frame b l n b.price b.day b.«open»
@@ -59,6 +60,7 @@ kept_account b k a e = record {
   stages = refl;
   fund = refl;
   deposited = refl;
+  heats = refl;
 }
 
 -- a match more, with nothing held, that is paired
@@ -71,6 +73,7 @@ kept_match b m h e f = record {
   stages = sum_add (λ m. rank m.stage) b.matches b.match_count m blank_match h ∙ omega arith;
   fund = refl;
   deposited = refl;
+  heats = refl;
 }
 
 kept_pair : (b : Book) (c : Bool) (days x y u : ℕ) → days ≤ 2 → Core b → Pairable b x y u → Kept b (pair b c days x y u)
@@ -91,7 +94,7 @@ kept_close b r o =
     let p = passes_keep (Kept b) (λ e c x y u k g h. kept_then h (kept_pair e c 1 x y u (omega arith) k g)) b (r.matches_open o) r.core (kept_receipts b b.receipts b.receipt_count) in
     let t = p.core.accounts in
     let l = lapsed d (omega (arith, t.size, t.few)) in
-    kept_then p.kept (record { count = refl; cash = λ k. ap (λ (a : Account). a.cash) (l.rows k); held = refl; stages = refl; fund = refl; deposited = refl })
+    kept_then p.kept (record { count = refl; cash = λ k. ap (λ (a : Account). a.cash) (l.rows k); held = refl; stages = refl; fund = refl; deposited = refl; heats = refl })
 
 -- ---- the six changes
 

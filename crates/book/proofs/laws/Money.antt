@@ -6,6 +6,7 @@ use Rattle.std.proofs.Common.{sym, ap, ◌∙◌, arith}
 use Rattle.std.proofs.Math.IntN.{pos, +ℤ_idr, +ℤ_idl, +ℤ_assoc}
 use Rattle.coal.specs.Choice.{pick}
 use Rattle.whole.specs.Ring.{ring}
+use Rattle.heats.specs.HeatTables.{IsHeatTable}
 use Rattle.book.specs.Types.{Account, Match, Book, Call}
 use Rattle.book.specs.Counting.{sum, total}
 use Rattle.book.specs.Rows.{blank_account}
@@ -127,24 +128,24 @@ list_cash k b (c ∷ cs) h =
     list_cash k (step b c).book cs (called c h)
     ∙ rw (change_cash b (bounded h) (changed b c (reached_tables h)) k) (+ℤ_assoc (account_at b k).cash _ _)
 
-opening_money : (kind t r p : ℕ) → all_money (opening kind t r p).book ≡ pos 0
+opening_money : (heats : List ℕ) → IsHeatTable heats → (kind t r p : ℕ) → all_money (opening heats kind t r p).book ≡ pos 0
 unfolding all_money total_cash total_held total sum
-opening_money = of_opening (λ (b : Book). all_money b ≡ pos 0) (λ board t r p g₁ g₂ g₃ g₄ g₅. refl)
+opening_money = of_opening (λ (b : Book). all_money b ≡ pos 0) (λ heats s board t r p g₁ g₂ g₃ g₄ g₅. refl)
 
-opening_none : (kind t r p : ℕ) → (opening kind t r p).book.account_count ≡ 0
-opening_none = of_opening (λ (b : Book). b.account_count ≡ 0) (λ board t r p g₁ g₂ g₃ g₄ g₅. refl)
+opening_none : (heats : List ℕ) → IsHeatTable heats → (kind t r p : ℕ) → (opening heats kind t r p).book.account_count ≡ 0
+opening_none = of_opening (λ (b : Book). b.account_count ≡ 0) (λ heats s board t r p g₁ g₂ g₃ g₄ g₅. refl)
 
-module _ (kind t r p : ℕ) (a : is_accepted (opening kind t r p).answer ≡ true) (cs : List Call) where
+module _ (heats : List ℕ) (s : IsHeatTable heats) (kind t r p : ℕ) (a : is_accepted (opening heats kind t r p).answer ≡ true) (cs : List Call) where
   -- cash of all accounts + all money held for matches + the fund = deposits accepted less cash withdrawals accepted
-  pub money : total_cash (after (opening kind t r p).book cs) +ℤ pos (total_held (after (opening kind t r p).book cs)) +ℤ pos (after (opening kind t r p).book cs).fund ≡ pos (deposits_accepted (opening kind t r p).book cs) -ℤ pos (withdrawals_accepted (opening kind t r p).book cs)
+  pub money : total_cash (after (opening heats kind t r p).book cs) +ℤ pos (total_held (after (opening heats kind t r p).book cs)) +ℤ pos (after (opening heats kind t r p).book cs).fund ≡ pos (deposits_accepted (opening heats kind t r p).book cs) -ℤ pos (withdrawals_accepted (opening heats kind t r p).book cs)
   unfolding all_money
   money =
-      let b = (opening kind t r p).book in
-      list_money b cs (opened kind t r p a) ∙ rw (opening_money kind t r p) (+ℤ_idl (pos (deposits_accepted b cs) -ℤ pos (withdrawals_accepted b cs)))
+      let b = (opening heats kind t r p).book in
+      list_money b cs (opened heats s kind t r p a) ∙ rw (opening_money heats s kind t r p) (+ℤ_idl (pos (deposits_accepted b cs) -ℤ pos (withdrawals_accepted b cs)))
 
   -- each account's cash is the sum of its entries in the list's accepted calls
-  pub entered : (k : ℕ) → (account_at (after (opening kind t r p).book cs) k).cash ≡ account_entries k (opening kind t r p).book cs
+  pub entered : (k : ℕ) → (account_at (after (opening heats kind t r p).book cs) k).cash ≡ account_entries k (opening heats kind t r p).book cs
   entered k =
-      let b = (opening kind t r p).book in
-      let h = opened kind t r p a in
-      list_cash k b cs h ∙ rw ((bounded h).blank k (omega (arith, opening_none kind t r p))) (+ℤ_idl (account_entries k b cs))
+      let b = (opening heats kind t r p).book in
+      let h = opened heats s kind t r p a in
+      list_cash k b cs h ∙ rw ((bounded h).blank k (omega (arith, opening_none heats s kind t r p))) (+ℤ_idl (account_entries k b cs))

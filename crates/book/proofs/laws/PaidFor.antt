@@ -95,7 +95,7 @@ full {b} (Answered.hands_over {j = j} g) r f = full_settled r (hand_over_settles
 full {b} (Answered.auctions {j = j} {winner = k} {x = x} g) r f = full_settled r (auction_settles b r j g.there g.awaiting k x g.winner_there g.few) f
 
 reached_full : {b : Book} → Reached b → Full b
-reached_full (opened kind t r p e) = of_opening Full (λ board t r p g₁ g₂ g₃ g₄ g₅ j h. absurd (omega arith)) kind t r p
+reached_full (opened heats s kind t r p e) = of_opening Full (λ heats s board t r p g₁ g₂ g₃ g₄ g₅ j h. absurd (omega arith)) heats s kind t r p
 reached_full (called {b = b} c h) = full (answered b c) (reached_tables h) (reached_full h)
 
 pub paid_for : EachPaidFor

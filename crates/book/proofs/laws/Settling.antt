@@ -302,7 +302,7 @@ module _ (b : Book) (r : SoundTables b) (j : ℕ) (p : j < b.match_count) where
       let v = value b c in
       let x = amount_due b c w q m s f a in
       let y = first_part x in
-      let few : x ≤ 22_000_000_000_000 = due_most b c w q m s f a row.few row.price_high r.core.terms.tonnes_few in
+      let few : x ≤ 22_000_000_000_000 = due_most b c w q m s f a r.core.terms.heat_table row.few row.price_high r.core.terms.tonnes_few in
       let part : y ≤ x = percent_down_most 80 x (omega arith) in
       record {
         number = j;

@@ -1,6 +1,7 @@
 -- What holds of every reached book, in parts. Each part names only what it reads of a book, so that a call that leaves that leaves the
 -- part. Assumes nothing.
 use Rattle.std.specs.Prelude.{◌≡◌, Bool, true, false, List, ℕ, ◌+◌, ◌*◌, ◌≤◌, ◌<◌, length, get_or, nat_abs, Some, None}
+use Rattle.heats.specs.HeatTables.{IsHeatTable}
 use Rattle.book.specs.Types.{Side, ReceiptState, Stage, Lots, Account, Receipt, Match, Book}
 use Rattle.book.specs.Counting.{tally}
 use Rattle.book.specs.Rows.{blank_account, blank_receipt, blank_match, short_units, has_frozen, is_paid_for}
@@ -80,10 +81,11 @@ abbrev pub frozen_of : ℕ → List Receipt → ℕ → ℕ
 frozen_of n l j = tally n 0 (frozen_at l j)
 
 -- what the opening and Day set, and the deposits accepted
-pub record Terms (tonnes rate price day deposited : ℕ) : Type 0 where
+pub record Terms (tonnes rate : ℕ) (heats : List ℕ) (price day deposited : ℕ) : Type 0 where
   pub tonnes_some : 0 < tonnes
   pub tonnes_few : tonnes ≤ 20_000
   pub rate_few : rate ≤ 100
+  pub heat_table : IsHeatTable heats
   pub price_some : 0 < price
   pub price_few : price ≤ 1_000_000
   pub day_few : day ≤ 1_000
@@ -111,7 +113,7 @@ pub record ReceiptTable (accounts matches : ℕ) (ms : List Match) (board : Bool
 
 -- what holds also between the pairings of a call
 pub record Core (b : Book) : Type 0 where
-  pub terms : Terms b.tonnes b.rate b.price b.day b.deposited
+  pub terms : Terms b.tonnes b.rate b.heats b.price b.day b.deposited
   pub accounts : AccountTable b.day b.account_count b.accounts
   pub matches : MatchTable b.account_count b.day b.tonnes b.board b.match_count b.matches
   pub receipts : ReceiptTable b.account_count b.match_count b.matches b.board b.receipt_count b.receipts

@@ -39,5 +39,5 @@ after_tables b [] r = r
 after_tables b (c ∷ cs) r = after_tables (step b c).book cs (step_tables b c r)
 
 pub reached_tables : {b : Book} → Reached b → SoundTables b
-reached_tables (opened kind t r p e) = opening_tables kind t r p
+reached_tables (opened heats s kind t r p e) = opening_tables heats s kind t r p
 reached_tables (called {b = b} c h) = step_tables b c (reached_tables h)

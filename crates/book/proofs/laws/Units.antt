@@ -3,6 +3,7 @@
 use Rattle.std.specs.Prelude.{◌≡◌, refl, Bool, true, false, List, [], ◌∷◌, ℕ, ◌+◌, ◌≤◌, ◌<◌, get_or, set}
 use Rattle.std.proofs.Common.{sym, ap, ◌∙◌, arith, length-set, get_or-set_other}
 use Rattle.coal.specs.Choice.{pick}
+use Rattle.heats.specs.HeatTables.{IsHeatTable}
 use Rattle.book.specs.Types.{Side, Account, Receipt, Match, Book, Outcome, Call}
 use Rattle.book.specs.Counting.{sum}
 use Rattle.book.specs.Rows.{blank_account, blank_match, is_long, is_short, long_units, short_units, offer_units, any_class, units_on}
@@ -180,15 +181,15 @@ list_even b (c ∷ cs) r =
     let t = list_even (step b c).book cs (step_tables b c r) in
     record { traded = omega (arith, s.traded, t.traded); balanced = omega (arith, s.balanced, t.balanced) }
 
-opening_none : (kind t r p : ℕ) → (units_long (opening kind t r p).book ≡ 0) × (units_short (opening kind t r p).book ≡ 0) × (units_in_matches (opening kind t r p).book ≡ 0)
+opening_none : (heats : List ℕ) → IsHeatTable heats → (kind t r p : ℕ) → (units_long (opening heats kind t r p).book ≡ 0) × (units_short (opening heats kind t r p).book ≡ 0) × (units_in_matches (opening heats kind t r p).book ≡ 0)
 unfolding units_long units_short units_in_matches sum
-opening_none = of_opening (λ (b : Book). (units_long b ≡ 0) × (units_short b ≡ 0) × (units_in_matches b ≡ 0)) (λ board t r p g₁ g₂ g₃ g₄ g₅. (refl, refl, refl))
+opening_none = of_opening (λ (b : Book). (units_long b ≡ 0) × (units_short b ≡ 0) × (units_in_matches b ≡ 0)) (λ heats s board t r p g₁ g₂ g₃ g₄ g₅. (refl, refl, refl))
 
-module _ (kind t r p : ℕ) (cs : List Call) where
+module _ (heats : List ℕ) (s : IsHeatTable heats) (kind t r p : ℕ) (cs : List Call) where
   -- units traded = units in matches + units still long
-  pub all_traded : units_traded (opening kind t r p).book cs ≡ units_in_matches (after (opening kind t r p).book cs) + units_long (after (opening kind t r p).book cs)
-  all_traded = let z = opening_none kind t r p in omega (arith, (list_even (opening kind t r p).book cs (opening_tables kind t r p)).traded, z.0, z.2)
+  pub all_traded : units_traded (opening heats kind t r p).book cs ≡ units_in_matches (after (opening heats kind t r p).book cs) + units_long (after (opening heats kind t r p).book cs)
+  all_traded = let z = opening_none heats s kind t r p in omega (arith, (list_even (opening heats kind t r p).book cs (opening_tables heats s kind t r p)).traded, z.0, z.2)
 
   -- units long = units short
-  pub balanced : units_long (after (opening kind t r p).book cs) ≡ units_short (after (opening kind t r p).book cs)
-  balanced = let z = opening_none kind t r p in omega (arith, (list_even (opening kind t r p).book cs (opening_tables kind t r p)).balanced, z.0, z.1)
+  pub balanced : units_long (after (opening heats kind t r p).book cs) ≡ units_short (after (opening heats kind t r p).book cs)
+  balanced = let z = opening_none heats s kind t r p in omega (arith, (list_even (opening heats kind t r p).book cs (opening_tables heats s kind t r p)).balanced, z.0, z.1)

@@ -1,10 +1,13 @@
 -- No step makes more of a price or a weight: bounds of what the definitions of Coal give, which callers need against overflow. Assumes nothing.
-use Rattle.std.specs.Prelude.{◌≡◌, refl, Bool, true, false, ℕ, ◌≤◌, ◌+◌, ◌-◌, ◌*◌, ◌/◌, min, ltb, leb}
+use Rattle.std.specs.Prelude.{◌≡◌, refl, Bool, true, false, List, ℕ, ◌≤◌, ◌<◌, ◌+◌, ◌-◌, ◌*◌, ◌/◌, min, ltb, leb}
 use Rattle.std.proofs.Common.{le_refl, mul-le-mul, sub-le, arith, ltb-true, ltb-false}
-use Rattle.std.proofs.Math.Nat.{le_trans, mul-le-mul_left}
+use Rattle.std.proofs.Math.Nat.{le_trans, le_of_lt, mul-le-mul_left}
+use Rattle.heats.specs.HeatTables.{IsHeatTable, entry_of}
+use Rattle.heats.specs.Numerators.{denominator}
 use Rattle.coal.specs.Choice.{pick}
-use Rattle.coal.specs.Coal.{half_up, percent_down, percent_half_up, settled_heat, price_by_heat, less_short_heat, less_sulphur, by_sulphur, outside, by_volatiles_or_ash, coal_price, weight_within, by_moisture, coal_weight, amount}
+use Rattle.coal.specs.Coal.{half_up, half_even, percent_down, percent_half_up, settled_heat, price_by_band, price_by_heat, less_short_heat, less_sulphur, by_sulphur, outside, by_volatiles_or_ash, coal_price, weight_within, by_moisture, coal_weight, amount}
 use Rattle.coal.proofs.laws.Rounding.{nearest_even}
+use Rattle.coal.proofs.laws.HeatTable.{entry_most}
 use Rattle.coal.specs.declared.Weighed.{Weighed}
 use Rattle.coal.specs.Ranges.{most_match_price, most_due, most_price, most_weight, most_amount}
 
@@ -21,14 +24,27 @@ pub settled_heat_most : (h q : ℕ) → settled_heat h q ≤ 6_000
 unfolding settled_heat
 settled_heat_most h q = omega arith
 
-pub price_by_heat_most : (p e : ℕ) → p ≤ most_match_price → e ≤ 6_000 → price_by_heat p e ≤ most_price
-unfolding price_by_heat
-price_by_heat_most p e h k =
+price_by_band_most : (p e : ℕ) → p ≤ most_match_price → e ≤ 6_000 → price_by_band p e ≤ most_price
+unfolding price_by_band
+price_by_band_most p e h k =
     let n : p * e ≤ 6_000_000_000 = mul-le-mul h k in
     pick_most (leb 5_300 e) _ _ _ (λ _. omega (arith, (nearest_even (p * e) 5_500 (omega arith)).above))
     (λ _. pick_most (leb 4_800 e) _ _ _ (λ _. omega (arith, (nearest_even (p * e * 8_768) 50_000_000 (omega arith)).above))
     (λ _. pick_most (leb 4_300 e) _ _ _ (λ _. omega (arith, (nearest_even (p * e * 7_687) 45_000_000 (omega arith)).above))
     (λ _. omega (arith, (nearest_even (p * e * 7_687) 90_000_000 (omega arith)).above))))
+
+-- what `price_by_heat` rounds, by the formula and by every heat table: 5,400,000,000 is the entry of 6,000 in the printed one
+module _ (p e : ℕ) (h : p ≤ most_match_price) where
+  pub formula_most : e < 4_300 → half_even (p * e * 7_687) 90_000_000 ≤ most_price
+  formula_most k = let n : p * e ≤ 4_300_000_000 = mul-le-mul h (le_of_lt k) in omega (arith, (nearest_even (p * e * 7_687) 90_000_000 (omega arith)).above)
+
+  pub entry_price_most : (heats : List ℕ) → IsHeatTable heats → 4_300 ≤ e → e ≤ 6_000 → half_even (p * entry_of heats e) denominator ≤ most_price
+  entry_price_most heats t g k = omega (arith, entry_most p (entry_of heats e) h (t.few e g k), (nearest_even (p * entry_of heats e) denominator (omega arith)).above)
+
+  pub price_by_heat_most : (heats : List ℕ) → IsHeatTable heats → e ≤ 6_000 → price_by_heat heats p e ≤ most_price
+  unfolding price_by_heat
+  price_by_heat_most heats t k =
+      pick_most (ltb e 4_300) _ _ _ (λ _. price_by_band_most p e h k) (λ f. entry_price_most heats t (ltb-false e 4_300 f) k)
 
 -- a step from x, where x is at most m
 module _ {x m : ℕ} (k : x ≤ m) where
@@ -54,9 +70,9 @@ module _ {x m : ℕ} (k : x ≤ m) where
   by_volatiles_or_ash_most f a = pick_most (outside f a) _ _ _ (λ _. percent_half_up_most 80 (omega arith)) (λ _. k)
 
 -- the price of coal is at most 1,090,909 fen for a match's price within its range
-pub coal_price_most : (p h q s f a : ℕ) → p ≤ most_match_price → coal_price p h q s f a ≤ most_price
+pub coal_price_most : (heats : List ℕ) (p h q s f a : ℕ) → IsHeatTable heats → p ≤ most_match_price → coal_price heats p h q s f a ≤ most_price
 unfolding coal_price
-coal_price_most p h q s f a k =
+coal_price_most heats p h q s f a t k =
     search (by_volatiles_or_ash_most, by_sulphur_most, less_sulphur_most, less_short_heat_most, price_by_heat_most, settled_heat_most) depth 12
 
 pub weight_within_most : (d w : ℕ) → weight_within d w ≤ d + 500_000
@@ -82,10 +98,5 @@ unfolding half_up amount
 amount_most x w h k = omega (arith, mul-le-mul h k)
 
 -- the same of a result that a function promises, for callers
-pub priced : (p h q s f a r : ℕ) → r ≡ coal_price p h q s f a → p ≤ most_match_price → r ≤ most_price
-priced p h q s f a r e k = rw e (coal_price_most p h q s f a k)
-
 pub weighed : (d w m : ℕ) (r : Weighed) → r ≡ coal_weight d w m → d ≤ most_due → r.settled ≤ most_weight
 weighed d w m r e k = rw e (omega (arith, coal_weight_most d w m))
-
-pub ruleset coal_needs = (priced, weighed)

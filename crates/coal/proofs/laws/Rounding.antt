@@ -1,10 +1,12 @@
 -- What the two roundings are, and which rule of the coal price and weight has which: "half up" (document 01) and "an exact half to the even fen" (document 02, Job 3). Assumes nothing.
-use Rattle.std.specs.Prelude.{◌≡◌, refl, Bool, true, false, ℕ, zero, suc, ◌+◌, ◌-◌, ◌*◌, ◌/◌, ◌%◌, ◌≤◌, ◌<◌, eqb, leb}
+use Rattle.std.specs.Prelude.{◌≡◌, refl, Bool, true, false, ℕ, zero, suc, ◌+◌, ◌-◌, ◌*◌, ◌/◌, ◌%◌, ◌≤◌, ◌<◌, eqb, leb, List}
 use Rattle.std.proofs.Common.{ap, div-add-mod', div-mul-le_self, le_antisymm, lt_of_mul-lt-mul_right, mod-lt, mul-le-mul_right, mul_left_comm, arith}
 use Rattle.std.proofs.Math.Nat.{eq_of_mul-eq-mul_right, lt-div-mul-add}
-use borrow.Author.Tests.{eqb-true, eqb-false, le-leb, leb-true, leb-false, lt-leb, lt-ltb}
+use borrow.Author.Tests.{eqb-true, eqb-false, le-ltb, le-leb, leb-true, leb-false, lt-leb, lt-ltb}
+use Rattle.heats.specs.HeatTables.{entry_of}
+use Rattle.heats.specs.Numerators.{denominator}
 use Rattle.coal.specs.Choice.{pick}
-use Rattle.coal.specs.Coal.{half_up, half_even, percent_half_up, price_by_heat, by_moisture, amount}
+use Rattle.coal.specs.Coal.{half_up, half_even, percent_half_up, price_by_band, price_by_heat, by_moisture, amount}
 
 -- "half up rounds to nearest, an exact half upwards": r times d is at most half of d above n, and less than half below
 pub record NearestUp (n d r : ℕ) : Type 0 where
@@ -88,18 +90,23 @@ module _ (n d : ℕ) (p : 0 < d) where
 
 -- "step 2 of the price rounds an exact half to the even fen", in each of its bands
 module _ (p e : ℕ) where
-  pub even_from_5300 : 5_300 ≤ e → NearestEven (p * e) 5_500 (price_by_heat p e)
-  unfolding price_by_heat
+  pub even_from_5300 : 5_300 ≤ e → NearestEven (p * e) 5_500 (price_by_band p e)
+  unfolding price_by_band
   even_from_5300 h = rw (le-leb 5_300 e h) (nearest_even _ _ (omega arith))
 
-  pub even_from_4800 : e < 5_300 → 4_800 ≤ e → NearestEven (p * e * 8_768) 50_000_000 (price_by_heat p e)
-  unfolding price_by_heat
+  pub even_from_4800 : e < 5_300 → 4_800 ≤ e → NearestEven (p * e * 8_768) 50_000_000 (price_by_band p e)
+  unfolding price_by_band
   even_from_4800 g h = rw (lt-leb 5_300 e g, le-leb 4_800 e h) (nearest_even _ _ (omega arith))
 
-  pub even_from_4300 : e < 4_800 → 4_300 ≤ e → NearestEven (p * e * 7_687) 45_000_000 (price_by_heat p e)
-  unfolding price_by_heat
+  pub even_from_4300 : e < 4_800 → 4_300 ≤ e → NearestEven (p * e * 7_687) 45_000_000 (price_by_band p e)
+  unfolding price_by_band
   even_from_4300 g h = rw (lt-leb 5_300 e (omega arith), lt-leb 4_800 e g, le-leb 4_300 e h) (nearest_even _ _ (omega arith))
 
-  pub even_below_4300 : e < 4_300 → NearestEven (p * e * 7_687) 90_000_000 (price_by_heat p e)
-  unfolding price_by_heat
+  pub even_below_4300 : e < 4_300 → NearestEven (p * e * 7_687) 90_000_000 (price_by_band p e)
+  unfolding price_by_band
   even_below_4300 g = rw (lt-leb 5_300 e (omega arith), lt-leb 4_800 e (omega arith), lt-leb 4_300 e g) (nearest_even _ _ (omega arith))
+
+  -- "step 2 gives P × entry / 4,950,000,000 rounded as in Job 3", by every heat table
+  pub even_by_entry : (heats : List ℕ) → 4_300 ≤ e → NearestEven (p * entry_of heats e) denominator (price_by_heat heats p e)
+  unfolding price_by_heat
+  even_by_entry heats h = rw (le-ltb e 4_300 h) (nearest_even _ _ (omega arith))

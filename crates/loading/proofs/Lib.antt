@@ -1,0 +1,2 @@
+pub mod laws
+pub mod Reading
