@@ -1,5 +1,6 @@
 // The session program: standard input is the session, standard output its answers and its ledger. With an argument, the name of a file, books are opened with the heat table that is loaded from it, else with the printed one.
 // `page` is the same lines with another buffer and `session::page`; one function of both would take the call as a closure (page/main.rt).
+// Promised: a session is given the printed table or, whichever bytes the file has, what `load` makes of them. Which bytes a file or the input has, no contract can say.
 #![tactic(auto)]
 
 ghost use Rattle.std.specs.Prelude.{◌≤◌, length};

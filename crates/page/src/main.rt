@@ -1,5 +1,6 @@
 // The page program: standard input is a session, standard output the ledger page of the book after it. With an argument, the name of a file, the book is opened with the heat table that is loaded from it, else with the printed one.
 // The same lines as `delivery`, with another buffer and `session::page`: one function of both would take the call as a closure, with clauses on where it may be called and how much it writes.
+// Promised: a session is given the printed table or, whichever bytes the file has, what `load` makes of them. Which bytes a file or the input has, no contract can say.
 #![tactic(auto)]
 
 ghost use Rattle.std.specs.Prelude.{◌≤◌, length};
