@@ -106,7 +106,7 @@ pay_match b j =
 abbrev pub cargo : Book → Match → (w m : ℕ) → Weighed
 cargo b c w m = coal_weight (c.units * b.tonnes * 1_000) w m
 
--- "amount B", of P the match's price, H its declared heat, the settled weight, and the measured values
+-- "amount B", by the heat table that the book was opened with, of P the match's price, H its declared heat, the settled weight, and the measured values
 unfoldable pub amount_due : Book → Match → (w q m s f a : ℕ) → ℕ
 amount_due b c w q m s f a = amount (coal_price b.heats c.price (heat_value c.heat) q s f a) (cargo b c w m).settled
 

@@ -9,7 +9,7 @@ use crate::receipts::Receipt;
 use crate::refusals::Refusal;
 use heats::HeatTable;
 
-// The book: kind, T, R, the day's price, the three tables, each an array of fixed length with how many of its rows are in use, "starts as [v; 256]", and last, so that no row lies elsewhere for it, the heat table that it was opened with, lent.
+// The book: kind, T, R, the day's price, and the three tables, each an array of fixed length with how many of its rows are in use: "starts as [v; 256]". The heat table that it was opened with, lent, stands last, where no row's place depends on it.
 // No invariant bounds the counts: Day, Join and the test of Close are promised of any book, and would ask it. A function that cuts the rows in use asks its count.
 #[derive(Drop)]
 pub struct Book<'t> {

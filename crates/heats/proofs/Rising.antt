@@ -3,7 +3,7 @@ use Rattle.std.specs.Prelude.{◌≡◌, Bool, true, false, ℕ, ◌-◌, ◌≤
 use Rattle.std.proofs.Common.{refl, sym, arith, le_refl, le-leb, leb-true}
 use Rattle.std.proofs.Math.Nat.{mul-le-mul}
 use mathlib.Core.Bool.{true≢false}
-use Rattle.heats.specs.Each.{length-each}
+use Rattle.heats.specs.Each.{length_each}
 use Rattle.heats.specs.HeatTables.{IsHeatTable}
 use Rattle.heats.specs.Numerators.{factor, factor_within, numerator, heat_table, entry, numerator_least, numerator_most}
 
@@ -27,7 +27,7 @@ numerator_rises d e h = mul-le-mul h (factor_rises (leb 5_300 d) (leb 4_800 d) (
 pub printed_table : IsHeatTable heat_table
 unfolding heat_table
 printed_table = record {
-  size = length-each numerator 1_701 4_300;
+  size = length_each numerator 1_701 4_300;
   some = λ e h k. omega (arith, entry refl e h k, numerator_least e h);
   few = λ e h k. omega (arith, entry refl e h k, numerator_most e k);
   rising = λ e h k. omega (arith, entry refl (e - 1) (omega arith) (omega arith), entry refl e (omega arith) k, numerator_rises (e - 1) e (omega arith));

@@ -14,7 +14,7 @@ each_at f zero i k h = absurd (not-suc-le-zero h)
 each_at f (suc n) i zero h = ap f (sym (add-zero i))
 each_at f (suc n) i (suc k) h = each_at f n (suc i) k (le_of_suc-le-suc h) ∙ ap f (suc-add i k ∙ sym (add-suc i k))
 
-pub length-each : (f : ℕ → ℕ) (n i : ℕ) → length (each f n i) ≡ n
+pub length_each : (f : ℕ → ℕ) (n i : ℕ) → length (each f n i) ≡ n
 unfolding each
-length-each f zero i = refl
-length-each f (suc n) i = ap suc (length-each f n (suc i))
+length_each f zero i = refl
+length_each f (suc n) i = ap suc (length_each f n (suc i))

@@ -5,7 +5,7 @@ use Rattle.std.proofs.lemmas.List.{ext_get_or}
 use Rattle.heats.specs.HeatTables.{entry_of}
 use Rattle.book.proofs.laws.Counting.{by_eq}
 use Rattle.loading.specs.Loading.{number_at, entries, breaks, any, is_bad}
-use Rattle.loading.proofs.laws.Loaded.{keeps_rules, within_rules, any_more, any_all, length-entries, entry_at, entry_is, bad}
+use Rattle.loading.proofs.laws.Loaded.{keeps_rules, within_rules, any_more, any_all, length_entries, entry_at, entry_is, bad}
 
 -- of the 1,701 entries those below i stand in l, and none of them breaks the rules; before is the last of them, and 1 where there is none
 pub record Read (s : List ℕ) (i : ℕ) (l : List ℕ) (before : ℕ) : Type 0 where
@@ -69,4 +69,4 @@ module _ {s : List ℕ} {i : ℕ} {l : List ℕ} {before : ℕ} (r : Read s i l 
     all_fine = subst (λ (k : ℕ). any k (breaks (entries s)) ≡ false) (omega (arith, r.within)) r.fine
 
     pub all_read : l ≡ entries s
-    all_read = ext_get_or 0 l (entries s) (r.size ∙ sym (length-entries s)) (λ k h. r.same k (omega (arith, r.size)) ∙ sym (entry_at s k (omega (arith, r.size))))
+    all_read = ext_get_or 0 l (entries s) (r.size ∙ sym (length_entries s)) (λ k h. r.same k (omega (arith, r.size)) ∙ sym (entry_at s k (omega (arith, r.size))))

@@ -4,7 +4,7 @@ use Rattle.std.proofs.Common.{zero-add, sym, ap, arith, eqb-true, eq-eqb}
 use mathlib.Core.Bool.{true≢false}
 use Rattle.std.proofs.lemmas.Bool.{or_parts, or_from, not-false}
 use Rattle.std.proofs.lemmas.Bool.Decides.{nat_tests}
-use Rattle.heats.specs.Each.{each_at, length-each}
+use Rattle.heats.specs.Each.{each_at, length_each}
 use Rattle.heats.specs.HeatTables.{IsHeatTable, entry_of}
 use Rattle.book.specs.Outcomes.{Answer}
 use Rattle.book.specs.Answers.{is_accepted}
@@ -41,9 +41,9 @@ module _ (p : ℕ → Bool) where
 
 -- ---- the entries
 
-pub length-entries : (s : List ℕ) → length (entries s) ≡ 1_701
+pub length_entries : (s : List ℕ) → length (entries s) ≡ 1_701
 unfolding entries
-length-entries s = length-each _ 1_701 0
+length_entries s = length_each _ 1_701 0
 
 pub entry_at : (s : List ℕ) (k : ℕ) → k < 1_701 → get_or (entries s) k 0 ≡ number_at s (8 * k + 8)
 unfolding entries
@@ -102,7 +102,7 @@ module _ (s : List ℕ) where
 
     -- any other is refused, and the former table is retained
     pub refused : (length s ≡ 13_616 → number_at s 0 ≡ 1_701 → IsHeatTable (entries s) → ⊥) → load s former ≡ record { answer = Answer.Refused 31; heats = former }
-    refused h = kept (bad (λ n m k. h n m (rules_kept (entries s) (length-entries s) k)))
+    refused h = kept (bad (λ n m k. h n m (rules_kept (entries s) (length_entries s) k)))
 
     -- what is taken keeps the rules
     pub only : is_accepted (load s former).answer ≡ true → (length s ≡ 13_616) × (number_at s 0 ≡ 1_701) × IsHeatTable (entries s)
@@ -110,9 +110,9 @@ module _ (s : List ℕ) where
     only =
         by_pick (λ (r : Loading). is_accepted r.answer ≡ true → (length s ≡ 13_616) × (number_at s 0 ≡ 1_701) × IsHeatTable (entries s)) (is_bad s)
         (λ e a. absurd (true≢false (sym a)))
-        (λ e a. let w = rules_of e in (w.0, w.1, rules_kept (entries s) (length-entries s) w.2))
+        (λ e a. let w = rules_of e in (w.0, w.1, rules_kept (entries s) (length_entries s) w.2))
 
     -- the table in force after a loading is a heat table, where it was one before
     pub loaded : IsHeatTable former → IsHeatTable (load s former).heats
     unfolding load
-    loaded t = by_pick (λ (r : Loading). IsHeatTable r.heats) (is_bad s) (λ e. t) (λ e. rules_kept (entries s) (length-entries s) (rules_of e).2)
+    loaded t = by_pick (λ (r : Loading). IsHeatTable r.heats) (is_bad s) (λ e. t) (λ e. rules_kept (entries s) (length_entries s) (rules_of e).2)

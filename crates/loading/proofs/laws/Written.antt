@@ -8,7 +8,7 @@ use Rattle.std.proofs.lemmas.List.{ext_get_or, get_or-append-add, get_or_past}
 use Rattle.heats.specs.HeatTables.{IsHeatTable}
 use Rattle.book.specs.Outcomes.{Answer}
 use Rattle.loading.specs.Loading.{number_at, entries, load}
-use Rattle.loading.proofs.laws.Loaded.{length-entries, entry_at, taken}
+use Rattle.loading.proofs.laws.Loaded.{length_entries, entry_at, taken}
 
 -- "8-byte numbers, most significant byte first": those of a list
 pub written : List ℕ → List ℕ
@@ -38,10 +38,10 @@ module _ (x : ℕ) (rest : List ℕ) where
         byte_later (at + 7) (n + 7) (omega arith),
       )
 
-length-written : (l : List ℕ) → length (written l) ≡ 8 * length l
+length_written : (l : List ℕ) → length (written l) ≡ 8 * length l
 unfolding written
-length-written [] = refl
-length-written (x ∷ l) = omega (arith, length-append (to_be_bytes w64 x) (written l), length-written l)
+length_written [] = refl
+length_written (x ∷ l) = omega (arith, length-append (to_be_bytes w64 x) (written l), length_written l)
 
 number_written : (l : List ℕ) → ((k : ℕ) → get_or l k 0 < 2 ^ 64) → (k n : ℕ) → k < length l → n ≡ 8 * k → number_at (written l) n ≡ get_or l k 0
 unfolding written
@@ -65,10 +65,10 @@ module _ (l : List ℕ) (t : IsHeatTable l) where
   entries_are : entries (written (1_701 ∷ l)) ≡ l
   entries_are =
       let s : List ℕ = written (1_701 ∷ l) in
-      ext_get_or 0 (entries s) l (length-entries s ∙ sym t.size)
-      (λ k h. let u : k < 1_701 = omega (arith, length-entries s) in entry_at s k u ∙ number_is (suc k) (8 * k + 8) (omega arith) (omega arith))
+      ext_get_or 0 (entries s) l (length_entries s ∙ sym t.size)
+      (λ k h. let u : k < 1_701 = omega (arith, length_entries s) in entry_at s k u ∙ number_is (suc k) (8 * k + 8) (omega arith) (omega arith))
 
   pub again : (former : List ℕ) → load (written (1_701 ∷ l)) former ≡ record { answer = Answer.Accepted 0; heats = l }
   again former =
       rw entries_are at
-      (taken (written (1_701 ∷ l)) former (length-written (1_701 ∷ l) ∙ omega (arith, t.size)) (number_is 0 0 (omega arith) (omega arith)) (rw entries_are t))
+      (taken (written (1_701 ∷ l)) former (length_written (1_701 ∷ l) ∙ omega (arith, t.size)) (number_is 0 0 (omega arith) (omega arith)) (rw entries_are t))

@@ -1,7 +1,7 @@
 use Rattle.std.proofs.Common.{ℕ, refl, sym, arith}
 use Rattle.std.proofs.lemmas.Bool.{iff_false}
 use Rattle.std.proofs.lemmas.List.{length-replicate}
-use Rattle.loading.proofs.laws.Loaded.{length-entries, rules_kept, good, bad, kept, accepted}
+use Rattle.loading.proofs.laws.Loaded.{length_entries, rules_kept, good, bad, kept, accepted}
 use Rattle.loading.proofs.Reading.{none_read, one_read, below_before, above_most, all_fine, all_read}
 use Rattle.loading.proofs.PortTable.load.Goals as goal
 use Rattle.loading.proofs.PortTable.load.Goals.{then-entry-before-via-then-entry-before, then-entry-before-via-else-entry-before+then-entry-gt-MOST}
@@ -26,7 +26,7 @@ pub loop-k-preserved : goal.loop-k-preserved
 loop-k-preserved c = one_read c.loop-k.invariant _ c.loop-k-test.true c.number_at-entry.ensures c.if-entry-before.false c.if-entry-gt-MOST.false
 
 pub invariant_of-self : goal.invariant_of-self
-invariant_of-self c = let r = c.loop-k.invariant in rw (all_read r c.loop-k-test.false) (rules_kept _ (length-entries _) (all_fine r c.loop-k-test.false))
+invariant_of-self c = let r = c.loop-k.invariant in rw (all_read r c.loop-k-test.false) (rules_kept _ (length_entries _) (all_fine r c.loop-k-test.false))
 
 pub returns : goal.returns
 returns c =
