@@ -9,7 +9,7 @@ int main(void) {
     /* one unit of 20,000 t traded, offered, taken and, two days later, paid; 20,600,000 kg weighed */
     static const char session[] =
         "0 1 20000 20 80000\n1 0 1\n1 0 1\n2 0 1600000000\n7 1 5300\n4 0 1 1\n8 1 1\n10 0 1\n11 80000\n11 80000\n13 0\n"
-        "14 0 20600000 5300 1000 50 3500 1000\n";
+        "14 0 20600000 5300 1000 50 3500 1000 20000000\n";
     size_t length = delivery_session((const uint8_t *)session, strlen(session), output, sizeof output);
     /* each line of the session has one line of the output, in order; the ledger follows */
     const uint8_t *answer = output, *end = output + length;

@@ -13,7 +13,7 @@ int main(void) {
     static const char input[] =
         "0 1 1 0 1000\n1 0 1\n1 0 1\n2 0 10000\n4 0 1 2\n7 1 5000\n"
         "8 1 1\n10 0 1\n8 1 1\n10 0 1\n11 1000\n11 1000\n13 0\n13 1\n"
-        "14 0 1000 4999 0 0 3000 0\n14 1 1000 5000 0 0 3000 0\n";
+        "14 0 1000 4999 0 0 3000 0 1000\n14 1 1000 5000 0 0 3000 0 1000\n";
     static uint8_t table[DELIVERY_TABLE_LENGTH], output[DELIVERY_ROOM];
     put(table, 1701);
     for (int heat = 4300; heat <= 6000; heat++) {

@@ -11,8 +11,9 @@
 
 /* Runs the session of input's bytes and writes its output from the start of output, where later bytes stay as they were; returns how many bytes it wrote.
    An output of less than DELIVERY_ROOM bytes is refused: 0 is returned and nothing is written. An input above 65,536 bytes,
-   and an empty one, print `no 26`. An accepted Measure (call 14) prints `ok n` with n the kilograms weighed above D + 500,000,
-   where D are due. In a receipts book Pay (call 13) funds a match, stage 5, and Hand over (call 17) then passes its receipts and pays its seller;
+   and an empty one, print `no 26`. An accepted Measure (call 14: match, W, Q, M, S, F, A, and the vessel's due kilograms) prints `ok n` with n the kilograms
+   weighed above the due ones + 500,000; its match, stage 1, is paid for when the due kilograms of its vessels, up to eight, add up to its own.
+   In a receipts book Pay (call 13) funds a match, stage 5, and Hand over (call 17) then passes its receipts and pays its seller;
    a match of an overseas buyer with any ordinary receipt it puts in stage 6, awaiting auction, which Auction (call 18: match, winner, proceeds) ends.
    The two buffers must not overlap. */
 size_t delivery_session(const uint8_t *input, size_t input_length, uint8_t *output, size_t output_length);

@@ -1,4 +1,5 @@
 //! Sessions made from a seed: mostly sensible calls, with wrong ones and damaged lines mixed in.
+use crate::machine::{Book, Stage};
 
 pub struct Random(u64);
 
@@ -69,8 +70,44 @@ fn number(r: &mut Random, accounts: u64) -> u64 {
     r.below(accounts + beyond)
 }
 
-/// One call of a session over `accounts` accounts; `late` is how far the session has come, in percent.
-fn call(r: &mut Random, board: bool, accounts: u64, late: u64) -> Vec<u64> {
+/// A vessel's due kilograms: what the vessels before it left of match `j`, or in `parts` of 100 a part of that; now and then none, too many, or those of some units.
+fn due(r: &mut Random, book: &Book, j: u64, parts: u64) -> u64 {
+    let of_units = |units: u64| units * book.tonnes * 1_000;
+    let left = book.matches.get(j as usize).map_or(of_units(1), |m| of_units(m.units) - m.vessels.iter().map(|vessel| vessel.due).sum::<u64>());
+    match r.below(12) {
+        0 => r.pick(&[0, left + 1, (1 << 32) + left, 999_999_999_999_999_999]),
+        1 => of_units(1 + r.below(6)),
+        _ if r.chance(parts) => if r.chance(50) { left / (2 + r.below(7)) } else { r.below(left + 1) },
+        _ => left,
+    }
+}
+
+/// A cargo, weighed and measured: W, Q, M, S, F and A.
+fn cargo(r: &mut Random, due: u64) -> [u64; 6] {
+    let due = due.min(20_000_000_000);
+    [
+        match r.below(4) {
+            0 => near(r, &[19_500_000, 20_000_000, 20_500_000, 40_000_000_000]),
+            1 => near(r, &[due.saturating_sub(500_000), due, due + 500_000]),
+            _ => r.below(100_000_000),
+        },
+        if r.chance(60) { 3_500 + r.below(4_000) } else { near(r, &[4_000, 4_300, 4_500, 4_800, 4_875, 5_300, 5_302, 5_499, 5_500, 6_000, 10_000]) },
+        if r.chance(50) { r.below(10_001) } else { near(r, &[2_500, 2_505, 2_632, 10_000]) },
+        if r.chance(50) { r.below(400) } else { near(r, &[80, 85, 150, 250, 10_000]) },
+        if r.chance(50) { r.below(10_001) } else { near(r, &[3_000, 4_200, 10_000]) },
+        if r.chance(50) { r.below(10_001) } else { near(r, &[3_000, 10_000]) },
+    ]
+}
+
+/// A Measure of match `j`: `14 match W Q M S F A due`.
+fn measure(r: &mut Random, book: &Book, j: u64, parts: u64) -> Vec<u64> {
+    let due = due(r, book, j, parts);
+    [&[14, j], &cargo(r, due)[..], &[due]].concat()
+}
+
+/// One call of a session over `accounts` accounts, which has led to this book; `late` is how far the session has come, in percent.
+fn call(r: &mut Random, book: &Book, accounts: u64, late: u64) -> Vec<u64> {
+    let board = book.board;
     let k = number(r, accounts);
     let l = number(r, accounts);
     let j = if r.chance(90) { r.below(1 + late * accounts / 40 + 4) } else { r.below(130) };
@@ -125,15 +162,7 @@ fn call(r: &mut Random, board: bool, accounts: u64, late: u64) -> Vec<u64> {
         12 => {}
         13 | 15 | 17 => c.push(j),
         18 => c.extend([j, k, if r.chance(30) { 0 } else { amount(r) }]),
-        14 => c.extend([
-            j,
-            if r.chance(50) { r.below(100_000_000) } else { near(r, &[19_500_000, 20_000_000, 20_500_000, 40_000_000_000]) },
-            if r.chance(60) { 3_500 + r.below(4_000) } else { near(r, &[4_000, 4_300, 4_500, 4_800, 4_875, 5_300, 5_302, 5_499, 5_500, 6_000, 10_000]) },
-            if r.chance(50) { r.below(10_001) } else { near(r, &[2_500, 2_505, 2_632, 10_000]) },
-            if r.chance(50) { r.below(400) } else { near(r, &[80, 85, 150, 250, 10_000]) },
-            if r.chance(50) { r.below(10_001) } else { near(r, &[3_000, 4_200, 10_000]) },
-            if r.chance(50) { r.below(10_001) } else { near(r, &[3_000, 10_000]) },
-        ]),
+        14 => return measure(r, book, j, 20),
         _ => {
             let parties = if r.chance(95) { 3 } else { 5 };
             c.extend([j, r.below(parties)]);
@@ -152,24 +181,42 @@ fn write_line(out: &mut Vec<u8>, values: &[u64]) {
     out.push(b'\n');
 }
 
+/// A session's lines so far, and the book after them.
+struct Written {
+    text: Vec<u8>,
+    book: Book,
+}
+
+impl Written {
+    fn open(kind: u64, tonnes: u64, rate: u64, price: u64) -> Written {
+        let mut text = Vec::new();
+        write_line(&mut text, &[0, kind, tonnes, rate, price]);
+        Written { text, book: Book::open(None, kind, tonnes, rate, price).expect("in range") }
+    }
+
+    fn write(&mut self, call: &[u64]) {
+        write_line(&mut self.text, call);
+        let _ = self.book.call(call[0], &call[1..]);
+    }
+}
+
 /// A session of `calls` calls from a seed, without damage.
 pub fn session(seed: u64, calls: usize) -> Vec<u8> {
     let mut r = Random::new(seed);
     let board = r.chance(40);
-    let mut out = Vec::new();
     let tonnes = if board && r.chance(70) { 20_000 } else { 1 + r.below(20_000) };
-    write_line(&mut out, &[0, board as u64, tonnes, r.below(101), 1 + r.below(1_000_000)]);
+    let mut written = Written::open(board as u64, tonnes, r.below(101), 1 + r.below(1_000_000));
     let accounts = 2 + r.below(31);
     for n in 0..calls {
-        if (n as u64) < accounts {
+        let c = if (n as u64) < accounts {
             let fit = r.chance(85) as u64;
-            write_line(&mut out, &[1, r.below(2), fit]);
+            vec![1, r.below(2), fit]
         } else {
-            let c = call(&mut r, board, accounts, n as u64 * 100 / calls as u64);
-            write_line(&mut out, &c);
-        }
+            call(&mut r, &written.book, accounts, n as u64 * 100 / calls as u64)
+        };
+        written.write(&c);
     }
-    out
+    written.text
 }
 
 /// A call of a session of short lines: numbers of one digit, but for matches and heats.
@@ -215,9 +262,50 @@ pub fn short_session(seed: u64, calls: usize) -> Vec<u8> {
     out
 }
 
+/// A coal port's session from a seed, of at most `calls` calls and mostly of Measures: up to 60 matches, three at a time loaded on one vessel to eight.
+pub fn vessels(seed: u64, calls: usize) -> Vec<u8> {
+    let mut r = Random::new(seed);
+    let tonnes = match r.below(4) {
+        0 => 1 + r.below(20),
+        1 => 1 + r.below(20_000),
+        _ => 20_000,
+    };
+    let mut written = Written::open(1, tonnes, r.below(101), 1 + r.below(1_000_000));
+    let mut first = vec![vec![1, r.below(2), 1], vec![1, r.below(2), 1], vec![2, 0, 1_000_000_000_000_000], vec![4, 0, 1, 1_000]];
+    let matches = 1 + r.below((calls as u64 / 12).clamp(1, 60));
+    for _ in 0..matches {
+        let (heat, units, price) = (4_300 + r.below(3_000), 1 + r.below(1_000 / matches), 1 + r.below(1_000_000));
+        first.extend([vec![7, 1, heat], vec![8, 1, units], vec![10, 0, 1], vec![11, price]]);
+    }
+    first.push(vec![11, 1]);
+    for c in first.iter().take(calls) {
+        written.write(c);
+    }
+    let parts = 10 + r.below(80);
+    for _ in first.len()..calls {
+        let book = &written.book;
+        let open = |&j: &usize| !matches!(book.matches[j].stage, Stage::Closed | Stage::Ended);
+        let front: Vec<usize> = (0..book.matches.len()).filter(open).take(3).collect();
+        if front.is_empty() {
+            break;
+        }
+        let place = front[r.below(front.len() as u64) as usize];
+        let j = place as u64;
+        let c = match (r.below(100), book.matches[place].stage) {
+            (0..=7, _) => call(&mut r, book, 2, 100),
+            (8..=10, Stage::Prepaid) => vec![16, j, r.below(3)],
+            (11..=90, Stage::Held) => vec![15, j],
+            (_, Stage::Paired) => vec![13, j],
+            _ => measure(&mut r, book, j, parts),
+        };
+        written.write(&c);
+    }
+    written.text
+}
+
 /// A coal port's session in which a cargo of one tonne is measured at this heat, at this price: its 12 lines are accepted.
 pub fn measured(heat: u64, price: u64) -> Vec<u8> {
-    format!("0 1 1 20 {price}\n1 0 1\n1 0 1\n2 0 1000000\n7 1 5800\n4 0 1 1\n8 1 1\n10 0 1\n11 1\n11 1\n13 0\n14 0 1000 {heat} 0 0 3500 1000\n").into_bytes()
+    format!("0 1 1 20 {price}\n1 0 1\n1 0 1\n2 0 1000000\n7 1 5800\n4 0 1 1\n8 1 1\n10 0 1\n11 1\n11 1\n13 0\n14 0 1000 {heat} 0 0 3500 1000 1000\n").into_bytes()
 }
 
 /// Damage: bytes changed, put in, taken out, lines blanked or cut, the end lost.

@@ -91,6 +91,13 @@ pub struct Receipt {
     pub state: State,
 }
 
+/// A vessel of a match: its due kilograms and its amount (document 02, Job 11).
+#[derive(Clone)]
+pub struct Vessel {
+    pub due: u64,
+    pub amount: u128,
+}
+
 #[derive(Clone)]
 pub struct Match {
     pub buyer: usize,
@@ -101,6 +108,8 @@ pub struct Match {
     pub heat: Option<u64>,
     pub held: u128,
     pub stage: Stage,
+    /// The vessels recorded.
+    pub vessels: Vec<Vessel>,
 }
 
 #[derive(Clone)]
@@ -267,7 +276,7 @@ impl Book {
             11 => self.next_day(a[0]),
             12 => self.close(),
             13 => self.pay_match(a[0]),
-            14 => self.measure(a[0], a[1], a[2], a[3], a[4], a[5], a[6]),
+            14 => self.measure(a[0], a[1], a[2], a[3], a[4], a[5], a[6], a[7]),
             15 => self.invoice(a[0]),
             16 => self.terminate(a[0], a[1]),
             17 => self.hand_over(a[0]),
@@ -431,6 +440,7 @@ impl Book {
             heat: self.accounts[seller].heat,
             held: 0,
             stage: Stage::Paired,
+            vessels: Vec::new(),
         });
         for k in [buyer, seller] {
             self.accounts[k].use_up(units);
@@ -591,23 +601,31 @@ impl Book {
         Ok(0)
     }
 
+    /// A match is loaded on up to eight vessels; it "stays prepaid until the dues add up to D; then B, the sum, is paid" (document 02, Job 11).
     #[allow(clippy::too_many_arguments)]
-    fn measure(&mut self, j: u64, w: u64, q: u64, m: u64, s: u64, f: u64, a: u64) -> Answer {
+    fn measure(&mut self, j: u64, w: u64, q: u64, m: u64, s: u64, f: u64, a: u64, due: u64) -> Answer {
         no(!self.board, 4)?;
         let j = self.match_number(j)?;
         no(self.matches[j].stage != Stage::Prepaid, 22)?;
         no(w > 40_000_000_000 || [q, m, s, f, a].iter().any(|&x| x > 10_000), 24)?;
         let v = self.value(j);
-        let x = self.matches[j].clone();
+        let x = &mut self.matches[j];
+        let d = (x.units * self.tonnes * 1_000) as u128;
+        let dues = x.vessels.iter().map(|vessel| vessel.due as u128).sum::<u128>() + due as u128;
+        no(due == 0 || dues > d || (x.vessels.len() == 7 && dues < d), 32)?;
         let price = coal_price(self.heats.as_deref(), x.price, x.heat.unwrap_or(0), q, s, f, a);
-        let (weight, over) = coal_weight(x.units * self.tonnes * 1_000, w, m);
-        let amount = half_up(price * weight, 1_000);
-        self.pay(x.buyer, v);
-        self.charge(x.buyer, amount);
-        let part = percent_down(80, amount);
-        self.pay(x.seller, part);
-        self.matches[j].held = amount - part;
-        self.matches[j].stage = Stage::Held;
+        let (weight, over) = coal_weight(due, w, m);
+        x.vessels.push(Vessel { due, amount: half_up(price * weight, 1_000) });
+        if dues == d {
+            let amount = x.vessels.iter().map(|vessel| vessel.amount).sum();
+            let part = percent_down(80, amount);
+            x.held = amount - part;
+            x.stage = Stage::Held;
+            let (buyer, seller) = (x.buyer, x.seller);
+            self.pay(buyer, v);
+            self.charge(buyer, amount);
+            self.pay(seller, part);
+        }
         Ok(over)
     }
 
@@ -631,6 +649,8 @@ impl Book {
         let fault = |named: bool| if named { Some(self.rate) } else { None };
         let (buyer_fault, seller_fault) = (fault(party != 1), fault(party != 0));
         self.punish(j, buyer_fault, seller_fault);
+        // "Terminate after a first vessel drops the vessels recorded"
+        self.matches[j].vessels.clear();
         self.matches[j].held = 0;
         self.matches[j].stage = Stage::Ended;
         Ok(0)

@@ -6,19 +6,19 @@ const LARGEST: usize = 65_536;
 
 /// How many arguments each call has, by number; `None` for no call.
 fn arguments(number: u64) -> Option<usize> {
-    const COUNTS: [usize; 19] = [4, 2, 2, 2, 3, 2, 2, 2, 2, 1, 2, 1, 0, 1, 7, 1, 2, 1, 3];
+    const COUNTS: [usize; 19] = [4, 2, 2, 2, 3, 2, 2, 2, 2, 1, 2, 1, 0, 1, 8, 1, 2, 1, 3];
     COUNTS.get(usize::try_from(number).ok()?).copied()
 }
 
-/// The numbers of a line, of which there are at most eight; `None` where the line is not of the form.
-fn numbers(line: &[u8], values: &mut [u64; 8]) -> Option<usize> {
+/// The numbers of a line, of which there are at most nine; `None` where the line is not of the form.
+fn numbers(line: &[u8], values: &mut [u64; 9]) -> Option<usize> {
     let (&last, body) = line.split_last()?;
     if last != b'\n' {
         return None;
     }
     let mut count = 0;
     for word in body.split(|&c| c == b' ') {
-        if word.is_empty() || word.len() > 18 || (word.len() > 1 && word[0] == b'0') || count == 8 {
+        if word.is_empty() || word.len() > 18 || (word.len() > 1 && word[0] == b'0') || count == 9 {
             return None;
         }
         let mut value = 0u64;
@@ -116,7 +116,7 @@ fn play(heats: Option<&[u64]>, input: &[u8], mut tell: impl FnMut(Answer)) -> Op
         return None;
     }
     let mut lines = input.split_inclusive(|&c| c == b'\n');
-    let mut values = [0u64; 8];
+    let mut values = [0u64; 9];
     let opened = match lines.next().and_then(|l| numbers(l, &mut values)) {
         Some(5) if values[0] == 0 => Book::open(heats, values[1], values[2], values[3], values[4]),
         _ => Err(26),

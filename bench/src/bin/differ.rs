@@ -1,5 +1,5 @@
 //! Runs the proved book and the plain one over the same sessions and compares every byte, of the sessions and of the pages, with the printed heat table and with others, and the heat table: differ [SESSIONS]
-use bench::generate::{damage, heat_table, measured, own_table, session, short_session, Random};
+use bench::generate::{damage, heat_table, measured, own_table, session, short_session, vessels, Random};
 
 /// Whether a text is written into a buffer of its own length, and into longer ones, whose later bytes stay, and not into a shorter one, which stays as it was.
 fn lent_agrees(text: &[u8], rooms: &[usize], write: impl Fn(&mut [u8]) -> usize) -> bool {
@@ -64,9 +64,14 @@ fn main() {
             0 => r.below(6),
             1..=6 => 20 + r.below(150),
             7 | 8 => 200 + r.below(1_200),
-            _ => 3_000 + r.below(3_500),
+            _ => 3_000 + r.below(3_200),
         } as usize;
-        let mut text = if seed % 4 == 1 { short_session(seed, calls) } else { session(seed, calls) };
+        let make = match seed % 8 {
+            1 | 5 => short_session,
+            2 => vessels,
+            _ => session,
+        };
+        let mut text = make(seed, calls);
         if seed % 3 == 0 {
             damage(&mut r, &mut text);
         }

@@ -29,3 +29,4 @@ pub mod Agreeing
 pub mod PaidFor
 pub mod Auctions
 pub mod OwnTable
+pub mod Vessels

@@ -1,4 +1,4 @@
--- Document 01's number for each case of an enum, and the values of Measure in its order. Assumes nothing.
+-- Document 01's number for each case of an enum, and the measured values in the order of Measure. Assumes nothing.
 use Rattle.std.specs.Prelude.{Bool, true, false, ℕ}
 use Rattle.book.specs.Types.{Sample, Refusal, Side, ReceiptState, Stage, Call}
 
@@ -62,8 +62,9 @@ refusal_number Refusal.FifthDay = 28
 refusal_number Refusal.OverseasWinner = 29
 refusal_number Refusal.AboveWinnersCash = 30
 refusal_number Refusal.BadTable = 31
+refusal_number Refusal.BadDueWeight = 32
 
--- "14 Measure match, W, Q, M, S, F, A": the values of a Measure, in that order
+-- "14 Measure match, W, Q, M, S, F, A": the measured values, in that order
 abbrev pub sample : (w q m s f a : ℕ) → Sample
 sample w q m s f a = record { weight = w; moisture = m; quality = record { heat = q; sulphur = s; volatiles = f; ash = a } }
 
@@ -82,7 +83,7 @@ call_number (Call.Take buyer seller) = 10
 call_number (Call.Day p) = 11
 call_number Call.Close = 12
 call_number (Call.Pay j) = 13
-call_number (Call.Measure j x) = 14
+call_number (Call.Measure j x d) = 14
 call_number (Call.Invoice j) = 15
 call_number (Call.Terminate j party) = 16
 call_number (Call.HandOver j) = 17

@@ -24,3 +24,4 @@ pub mod Agreement
 pub mod PaidFor
 pub mod Auctions
 pub mod OwnTable
+pub mod Vessels

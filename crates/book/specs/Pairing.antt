@@ -10,9 +10,9 @@ use Rattle.book.specs.Tables.{account_at, put_account, add_match, with_receipts,
 abbrev pub take_units : Book → ℕ → ℕ → Book
 take_units b k u = put_account b k (units_off (account_at b k) u)
 
--- a match has "buyer, seller, units, price of its day, due day, seller's declared heat at pairing or missing, money held, and a stage"
+-- a match has "buyer, seller, units, price of its day, due day, seller's declared heat at pairing or missing, money held, and a stage"; no vessel is recorded
 abbrev pub new_match : Book → ℕ → ℕ → ℕ → ℕ → Match
-new_match b buyer seller u days = record { held = 0; price = b.price; units = u; due = b.day + days; heat = (account_at b seller).heat; buyer = buyer; seller = seller; stage = Stage.Paired }
+new_match b buyer seller u days = record { held = 0; loaded = 0; counted = 0; price = b.price; units = u; due = b.day + days; heat = (account_at b seller).heat; buyer = buyer; seller = seller; stage = Stage.Paired; vessels = 0 }
 
 -- a receipt table, and how many receipts are still to be frozen in it
 pub record Freezing : Type 0 where

@@ -18,7 +18,7 @@ abbrev pub blank_receipt : Receipt
 blank_receipt = record { owner = 0; bonded = false; state = ReceiptState.Free }
 
 abbrev pub blank_match : Match
-blank_match = record { held = 0; price = 0; units = 0; due = 0; heat = None; buyer = 0; seller = 0; stage = Stage.Paired }
+blank_match = record { held = 0; loaded = 0; counted = 0; price = 0; units = 0; due = 0; heat = None; buyer = 0; seller = 0; stage = Stage.Paired; vessels = 0 }
 
 -- ---- an account
 
@@ -178,9 +178,13 @@ passed j taker r = pick (is_frozen_for j r.state) (record { owner = taker; bonde
 
 -- ---- a match
 
--- with so much money held, and a stage
+-- with so much money held, and a stage; it comes there with no vessel recorded: "Terminate after a first vessel drops the vessels recorded."
 abbrev pub with_held : Match → ℕ → Stage → Match
-with_held m x s = record { held = x; price = m.price; units = m.units; due = m.due; heat = m.heat; buyer = m.buyer; seller = m.seller; stage = s }
+with_held m x s = record { held = x; loaded = 0; counted = 0; price = m.price; units = m.units; due = m.due; heat = m.heat; buyer = m.buyer; seller = m.seller; stage = s; vessels = 0 }
+
+-- with a vessel more recorded, of d due kilograms: they are added to those of the vessels before it, and "its amount counts towards B"
+abbrev pub with_vessel : Match → ℕ → ℕ → Match
+with_vessel m d x = record { held = m.held; loaded = m.loaded + d; counted = m.counted + x; price = m.price; units = m.units; due = m.due; heat = m.heat; buyer = m.buyer; seller = m.seller; stage = m.stage; vessels = m.vessels + 1 }
 
 abbrev pub is_paired : Stage → Bool
 is_paired Stage.Paired = true

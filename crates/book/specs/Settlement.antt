@@ -1,12 +1,11 @@
 -- Calls 13 to 18: Pay, Measure, Invoice, Terminate, Hand over, Auction. Assumes nothing.
-use Rattle.std.specs.Prelude.{Bool, not, ◌&&◌, List, ℕ, ◌+◌, ◌-◌, ◌*◌, ltb, leb, eqb, pos, get_or, set, Option, Some, None}
+use Rattle.std.specs.Prelude.{Bool, not, ◌&&◌, ◌||◌, List, ℕ, ◌+◌, ◌-◌, ◌*◌, ltb, leb, eqb, pos, get_or, set, Option, Some, None}
 use Rattle.std.specs.Int.Signed.{lt_z}
 use Rattle.coal.specs.Choice.{pick}
-use Rattle.coal.specs.declared.Weighed.{Weighed}
 use Rattle.coal.specs.Coal.{percent_down, coal_price, coal_weight, amount}
 use Rattle.book.specs.Types.{Stage, Receipt, Match, Book, Outcome}
 use Rattle.book.specs.Counting.{iter}
-use Rattle.book.specs.Rows.{blank_receipt, heat_missing, heat_value, released, passed, with_held, is_paired, is_prepaid, is_held, is_funded, is_awaiting}
+use Rattle.book.specs.Rows.{blank_receipt, heat_missing, heat_value, released, passed, with_held, with_vessel, is_paired, is_prepaid, is_held, is_funded, is_awaiting}
 use Rattle.book.specs.Tables.{account_at, match_at, put_match, with_receipts, with_fund, pay, charge, frozen_receipts, ordinary_receipts}
 use Rattle.book.specs.Answers.{refuse_if, accept}
 
@@ -102,23 +101,41 @@ pay_match b j =
     (refuse_if (ltb b.day (match_at b j).due) 23 b
     (accept 0 (paid b j (match_at b j) (buyer_fault b j) (seller_fault b j)))))
 
--- what the weight rule gives for the cargo of a match: "D = units × T × 1,000 kg", W and M as measured
-abbrev pub cargo : Book → Match → (w m : ℕ) → Weighed
-cargo b c w m = coal_weight (c.units * b.tonnes * 1_000) w m
+-- "D = units × T × 1,000 kg"
+unfoldable pub weight_due : Book → Match → ℕ
+weight_due b c = c.units * b.tonnes * 1_000
 
--- "amount B", by the heat table that the book was opened with, of P the match's price, H its declared heat, the settled weight, and the measured values
-unfoldable pub amount_due : Book → Match → (w q m s f a : ℕ) → ℕ
-amount_due b c w q m s f a = amount (coal_price b.heats c.price (heat_value c.heat) q s f a) (cargo b c w m).settled
+-- "Each vessel's weight, kilograms over (Job 2) and amount follow the rules as they now stand with its due weight for D": the amount of a vessel with d due kilograms,
+-- by the heat table that the book was opened with, of P the match's price, H its declared heat, the settled weight, and the measured values
+unfoldable pub vessel_amount : Book → Match → (d w q m s f a : ℕ) → ℕ
+vessel_amount b c d w q m s f a = amount (coal_price b.heats c.price (heat_value c.heat) q s f a) (coal_weight d w m).settled
+
+-- a vessel with d due kilograms more leaves the match short: its dues do not yet "add up to D"
+unfoldable pub leaves_short : Book → Match → ℕ → Bool
+leaves_short b c d = ltb (c.loaded + d) (weight_due b c)
+
+-- "32 when the due weight is zero or takes the sum above D, or when the eighth leaves it short"
+unfoldable pub bad_due : Book → Match → ℕ → Bool
+bad_due b c d = eqb d 0 || ltb (weight_due b c) (c.loaded + d) || (eqb c.vessels 7 && leaves_short b c d)
 
 -- "buyer gets V back and pays B; seller gets 80% of B, down; the rest is held; stage held."
 unfoldable pub measured : Book → ℕ → Match → ℕ → Book
 measured b j c x =
     set_stage (pay (charge (pay b c.buyer (value b c)) c.buyer x) c.seller (first_part x)) j (x - first_part x) Stage.Held
 
--- "14 Measure match, W, Q, M, S, F, A." "W kg 0..40,000,000,000"; "these five 0..10,000"; "Measure (prepaid)"
--- "Measure's accepted answer carries the second in place of 0.": the kilograms over
-unfoldable pub measure : Book → (j w q m s f a : ℕ) → Outcome
-measure b j w q m s f a =
+-- match j, with a vessel more recorded, of d due kilograms and amount x
+abbrev pub record_vessel : Book → ℕ → ℕ → ℕ → Book
+record_vessel b j d x = put_match b j (with_vessel (match_at b j) d x)
+
+-- a vessel of d due kilograms and amount x: "The match stays prepaid until the dues add up to D; then B, the sum, is paid as before."
+unfoldable pub loaded : Book → ℕ → Match → ℕ → ℕ → Book
+loaded b j c d x = pick (leaves_short b c d) (record_vessel b j d x) (measured b j c (c.counted + x))
+
+-- "14 Measure match, W, Q, M, S, F, A."; "Measure now names the due kilograms of the vessel as well, as its last argument."
+-- "W kg 0..40,000,000,000"; "these five 0..10,000"; "Measure (prepaid)"; 32 "comes after 24"
+-- "Measure's accepted answer carries the second in place of 0.": the vessel's kilograms over
+unfoldable pub measure : Book → (j w q m s f a d : ℕ) → Outcome
+measure b j w q m s f a d =
     refuse_if (not b.board) 4 b
     (refuse_if (leb b.match_count j) 21 b
     (refuse_if (not (is_prepaid (match_at b j).stage)) 22 b
@@ -128,7 +145,8 @@ measure b j w q m s f a =
     (refuse_if (ltb 10_000 s) 24 b
     (refuse_if (ltb 10_000 f) 24 b
     (refuse_if (ltb 10_000 a) 24 b
-    (accept (cargo b (match_at b j) w m).over (measured b j (match_at b j) (amount_due b (match_at b j) w q m s f a)))))))))))
+    (refuse_if (bad_due b (match_at b j) d) 32 b
+    (accept (coal_weight d w m).over (loaded b j (match_at b j) d (vessel_amount b (match_at b j) d w q m s f a))))))))))))
 
 -- "15 Invoice match." "Invoice (held): the money held goes to the seller; closed."
 unfoldable pub invoice : Book → ℕ → Outcome

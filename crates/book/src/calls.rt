@@ -63,6 +63,7 @@ pub enum Call {
     Measure {
         number: u64,
         sample: Sample,
+        due_weight: u64,
     },
     Invoice {
         number: u64,

@@ -67,6 +67,8 @@ pub enum Refusal {
     AboveWinnersCash = 30,
     // "31 when the count, the length or an entry breaks these rules": a heat table
     BadTable = 31,
+    // "32 when the due weight is zero or takes the sum above D, or when the eighth leaves it short": of a vessel
+    BadDueWeight = 32,
 }
 
 impl Refusal {

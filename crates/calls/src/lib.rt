@@ -30,7 +30,11 @@ pub fn apply(month: &mut Month, call: Call) -> Result<u64, Refusal>
         Call::Day { price } => accounts::next_day(month, price),
         Call::Close => closing::close(month),
         Call::Pay { number } => settlement::pay_match(month, number),
-        Call::Measure { number, sample } => measuring::measure(month, number, &sample),
+        Call::Measure {
+            number,
+            sample,
+            due_weight,
+        } => measuring::measure(month, number, &sample, due_weight),
         Call::Invoice { number } => settlement::invoice(month, number),
         Call::Terminate { number, party } => measuring::terminate(month, number, party),
         Call::HandOver { number } => settlement::hand_over(month, number),

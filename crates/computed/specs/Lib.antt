@@ -16,6 +16,7 @@ pub mod Terminate
 pub mod HeatLate
 pub mod Measured
 pub mod Over
+pub mod Vessels
 pub mod Halves
 pub mod Deductions
 pub mod Tables

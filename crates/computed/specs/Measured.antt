@@ -27,16 +27,16 @@ first_two =
     ∷ line (Call.Pay 0) (ok 0)
     ∷ line (Call.Pay 1) (ok 0)
     ∷ line (Call.Pay 2) (ok 0)
-    ∷ line (Call.Measure 0 (sample 40_000_000_001 5_300 2_500 80 3_000 3_000)) (no 24)
-    ∷ line (Call.Measure 0 (sample 20_000_000 10_001 2_500 80 3_000 3_000)) (no 24)
-    ∷ line (Call.Measure 0 (sample 20_000_000 5_300 10_001 80 3_000 3_000)) (no 24)
-    ∷ line (Call.Measure 0 (sample 20_000_000 5_300 2_500 10_001 3_000 3_000)) (no 24)
-    ∷ line (Call.Measure 0 (sample 20_000_000 5_300 2_500 80 10_001 3_000)) (no 24)
-    ∷ line (Call.Measure 0 (sample 20_000_000 5_300 2_500 80 3_000 10_001)) (no 24)
+    ∷ line (Call.Measure 0 (sample 40_000_000_001 5_300 2_500 80 3_000 3_000) 20_000_000) (no 24)
+    ∷ line (Call.Measure 0 (sample 20_000_000 10_001 2_500 80 3_000 3_000) 20_000_000) (no 24)
+    ∷ line (Call.Measure 0 (sample 20_000_000 5_300 10_001 80 3_000 3_000) 20_000_000) (no 24)
+    ∷ line (Call.Measure 0 (sample 20_000_000 5_300 2_500 10_001 3_000 3_000) 20_000_000) (no 24)
+    ∷ line (Call.Measure 0 (sample 20_000_000 5_300 2_500 80 10_001 3_000) 20_000_000) (no 24)
+    ∷ line (Call.Measure 0 (sample 20_000_000 5_300 2_500 80 3_000 10_001) 20_000_000) (no 24)
     ∷ line (Call.Invoice 0) (no 22)
-    ∷ line (Call.Measure 0 (sample 19_499_999 5_300 2_504 150 4_200 3_000)) (ok 0)
-    ∷ line (Call.Measure 0 (sample 1 1 1 1 1 1)) (no 22)
-    ∷ line (Call.Measure 1 (sample 40_000_000_000 6_000 2_632 80 3_000 3_000)) (ok 39_979_500_000)
+    ∷ line (Call.Measure 0 (sample 19_499_999 5_300 2_504 150 4_200 3_000) 20_000_000) (ok 0)
+    ∷ line (Call.Measure 0 (sample 1 1 1 1 1 1) 20_000_000) (no 22)
+    ∷ line (Call.Measure 1 (sample 40_000_000_000 6_000 2_632 80 3_000 3_000) 20_000_000) (ok 39_979_500_000)
     ∷ []
 
 -- "Cash may go below zero by penalties and by Measure."
@@ -55,7 +55,7 @@ below_zero = refl
 abbrev script : List Line
 script =
     first_two
-    ++ line (Call.Measure 2 (sample 0 0 10_000 10_000 10_000 10_000)) (ok 0)
+    ++ line (Call.Measure 2 (sample 0 0 10_000 10_000 10_000 10_000) 20_000_000) (ok 0)
     ∷ line (Call.Invoice 0) (ok 0)
     ∷ line (Call.Invoice 1) (ok 0)
     ∷ line (Call.Invoice 2) (ok 0)

@@ -31,14 +31,14 @@ script =
     ∷ line (Call.Pay 3) (ok 0)
     ∷ line (Call.Pay 4) (ok 0)
     ∷ line (Call.Pay 5) (ok 0)
-    ∷ line (Call.Measure 0 (sample 20_000_001 5_300 2_500 80 3_000 3_000)) (ok 0)
-    ∷ line (Call.Measure 1 (sample 20_500_000 5_300 2_500 80 3_000 3_000)) (ok 0)
-    ∷ line (Call.Measure 2 (sample 20_500_001 5_300 2_500 80 3_000 3_000)) (ok 1)
-    ∷ line (Call.Measure 3 (sample 20_500_001 5_300 10_000 80 3_000 3_000)) (ok 1)
-    ∷ line (Call.Measure 4 (sample 40_000_000_001 5_300 2_504 80 3_000 3_000)) (no 24)
-    ∷ line (Call.Measure 4 (sample 40_000_000_000 5_300 2_504 80 3_000 3_000)) (ok 39_979_500_000)
-    ∷ line (Call.Measure 4 (sample 40_000_000_000 5_300 2_504 80 3_000 3_000)) (no 22)
-    ∷ line (Call.Measure 5 (sample 40_500_001 5_300 2_505 80 3_000 3_000)) (ok 1)
+    ∷ line (Call.Measure 0 (sample 20_000_001 5_300 2_500 80 3_000 3_000) 20_000_000) (ok 0)
+    ∷ line (Call.Measure 1 (sample 20_500_000 5_300 2_500 80 3_000 3_000) 20_000_000) (ok 0)
+    ∷ line (Call.Measure 2 (sample 20_500_001 5_300 2_500 80 3_000 3_000) 20_000_000) (ok 1)
+    ∷ line (Call.Measure 3 (sample 20_500_001 5_300 10_000 80 3_000 3_000) 20_000_000) (ok 1)
+    ∷ line (Call.Measure 4 (sample 40_000_000_001 5_300 2_504 80 3_000 3_000) 20_000_000) (no 24)
+    ∷ line (Call.Measure 4 (sample 40_000_000_000 5_300 2_504 80 3_000 3_000) 20_000_000) (ok 39_979_500_000)
+    ∷ line (Call.Measure 4 (sample 40_000_000_000 5_300 2_504 80 3_000 3_000) 20_000_000) (no 22)
+    ∷ line (Call.Measure 5 (sample 40_500_001 5_300 2_505 80 3_000 3_000) 40_000_000) (ok 1)
     ∷ []
 
 answers : play 1 20_000 10 80_000 script ≡ script

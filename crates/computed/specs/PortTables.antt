@@ -33,9 +33,9 @@ script =
     ∷ line (Call.Pay 0) (ok 0)
     ∷ line (Call.Pay 1) (ok 0)
     ∷ line (Call.Pay 2) (ok 0)
-    ∷ line (Call.Measure 0 (sample 20_000_000 5_000 0 0 3_000 0)) (ok 0)
-    ∷ line (Call.Measure 1 (sample 20_000_000 4_999 0 0 3_000 0)) (ok 0)
-    ∷ line (Call.Measure 2 (sample 20_000_000 4_299 0 0 3_000 0)) (ok 0)
+    ∷ line (Call.Measure 0 (sample 20_000_000 5_000 0 0 3_000 0) 20_000_000) (ok 0)
+    ∷ line (Call.Measure 1 (sample 20_000_000 4_999 0 0 3_000 0) 20_000_000) (ok 0)
+    ∷ line (Call.Measure 2 (sample 20_000_000 4_299 0 0 3_000 0) 20_000_000) (ok 0)
     ∷ []
 
 -- "step 2 gives P × entry / 4,950,000,000": 80,000 and 40,000 fen a tonne; "Heats under 4,300 keep the formula.": 29,375

@@ -18,7 +18,7 @@ use Rattle.book.specs.Offers as offers
 use Rattle.book.specs.Closing as closing
 use Rattle.book.specs.Settlement as settlement
 use Rattle.book.specs.Calls.{step}
-use Rattle.book.specs.Entries.{penalty_entries, pay_entries, measure_entries, terminate_entries, hand_over_entries, auction_entries, entries}
+use Rattle.book.specs.Entries.{penalty_entries, pay_entries, measure_entries, vessel_entries, terminate_entries, hand_over_entries, auction_entries, entries}
 use Rattle.book.specs.Lists.{after, sum_accepted, amounts, deposits_accepted, withdrawals_accepted, units_traded, entry_sum, account_entries}
 use Rattle.book.specs.Demand3.{gave, gave_out, overseas_units_open, bonded_units_offered, total_cash, total_held, units_in_matches, units_long, units_short}
 
@@ -109,7 +109,7 @@ unfolding
     settlement.value settlement.seller_fault settlement.buyer_fault settlement.penalty settlement.punish settlement.release_turn settlement.free_again
     settlement.pass_turn settlement.pass_receipts settlement.into_held settlement.fault_ended settlement.paid settlement.pay_match settlement.handed settlement.hand_over
     settlement.to_auction settlement.paid_stage settlement.sold settlement.unsold settlement.auctioned settlement.auction tables.ordinary_at tables.ordinary_receipts
-    settlement.amount_due settlement.measured settlement.measure settlement.invoice settlement.terminated settlement.terminate step book_of
+    settlement.weight_due settlement.vessel_amount settlement.leaves_short settlement.bad_due settlement.measured settlement.loaded settlement.measure settlement.invoice settlement.terminated settlement.terminate step book_of
 play kind t r p ls = answered (book_of kind t r p) (calls ls)
 
 -- the answer to one call after a list of calls from an opening
@@ -137,7 +137,7 @@ pub record Sums : Type 0 where
   pub entered : List ℤ
 
 unfoldable pub sums_after : ℕ → ℕ → ℕ → ℕ → List Line → Sums
-unfolding play after sum_accepted amounts penalty_entries pay_entries measure_entries terminate_entries hand_over_entries auction_entries entries entry_sum account_entries total_cash total_held units_in_matches units_long units_short
+unfolding play after sum_accepted amounts penalty_entries pay_entries measure_entries vessel_entries terminate_entries hand_over_entries auction_entries entries entry_sum account_entries total_cash total_held units_in_matches units_long units_short
 sums_after kind t r p ls =
     let b = book_of kind t r p in
     let cs = calls ls in

@@ -35,8 +35,8 @@ script =
     ∷ line (Call.Terminate 0 1) (ok 0)
     ∷ line (Call.Deposit 1 15_000) (ok 0)
     ∷ line (Call.Invoice 0) (no 22)
-    ∷ line (Call.Measure 2 (sample 1 1 1 1 1 1)) (no 21)
-    ∷ line (Call.Measure 0 (sample 1 1 1 1 1 1)) (no 22)
+    ∷ line (Call.Measure 2 (sample 1 1 1 1 1 1) 1) (no 21)
+    ∷ line (Call.Measure 0 (sample 1 1 1 1 1 1) 1) (no 22)
     ∷ line (Call.Terminate 1 2) (ok 0)
     ∷ []
 

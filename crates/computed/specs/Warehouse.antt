@@ -24,7 +24,7 @@ script =
     ∷ line (Call.Take 1 0) (ok 0)
     ∷ line (Call.Strike 0 1) (no 18)
     ∷ line (Call.Strike 1 1) (no 17)
-    ∷ line (Call.Measure 0 (sample 1 1 1 1 1 1)) (no 4)
+    ∷ line (Call.Measure 0 (sample 1 1 1 1 1 1) 1) (no 4)
     ∷ line (Call.Terminate 0 0) (no 4)
     ∷ []
 

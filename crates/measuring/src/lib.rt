@@ -1,9 +1,11 @@
 // Calls 14 and 16, of a board book: Measure, Terminate.
 #![tactic(auto)]
 
-ghost use Rattle.std.specs.Prelude.{◌≡◌};
+ghost use Rattle.std.specs.Prelude.{◌≡◌, ◌≤◌, ◌-◌, ◌+◌};
 ghost use Rattle.book.specs.Answers.{outcome};
-ghost use Rattle.book.specs.Settlement.{cargo, amount_due, measured, measure, terminated, terminate};
+ghost use Rattle.coal.specs.Coal.{coal_weight};
+ghost use Rattle.book.specs.Settlement.{weight_due, vessel_amount, leaves_short, bad_due, measured, loaded, measure, terminated, terminate};
+ghost use Rattle.coal.specs.Ranges.{most_due, most_amount};
 ghost use Rattle.payments.specs.Money.{Due};
 ghost use Rattle.measuring.specs.Party.{party_number};
 
@@ -13,15 +15,46 @@ use payments::{Faults, ValuedMatch, charge, pay, punish, set_stage};
 
 // ---- Measure
 
-// "works out amount B" and beside it the kilograms over: by the book's heat table, of P the match's price, H its declared heat, the settled weight of its cargo, "D = units × T × 1,000 kg", and the measured quality.
-#[tactic(auto, using(coal::proofs::laws::Bounds::coal_weight_most), unfolding(book::specs::Settlement::amount_due))]
-fn amount_due(book: &Book, m: &ValuedMatch, sample: &Sample) -> (Amount, u64)
+// What is still to be loaded: "D = units × T × 1,000 kg" less the dues of the vessels recorded.
+#[tactic(auto, unfolding(book::specs::Settlement::weight_due))]
+fn still_due(book: &Book, m: &ValuedMatch) -> u64
     requires { Due book.now m.now }
-    ensures amount { result.0 ≡ amount_due book.now m.now.row sample.now.weight sample.now.quality.heat sample.now.moisture sample.now.quality.sulphur sample.now.quality.volatiles sample.now.quality.ash }
-    ensures over { result.1 ≡ (cargo book.now m.now.row sample.now.weight sample.now.moisture).over }
+    ensures left { result ≡ weight_due book.now m.now.row - m.now.row.loaded }
+    ensures few { result ≤ most_due }
 {
-    let cargo = m.row.units as u64 * book.tonnes * 1_000;
-    let loaded = coal::weight(cargo, sample.weight, sample.moisture);
+    m.row.units as u64 * book.tonnes * 1_000 - m.row.loaded
+}
+
+// The dues do not yet "add up to D" with this vessel's.
+#[tactic(auto, unfolding(book::specs::Settlement::leaves_short))]
+fn leaves_short(book: &Book, m: &ValuedMatch, due_weight: u64) -> bool
+    requires { Due book.now m.now }
+    ensures { result ≡ leaves_short book.now m.now.row due_weight }
+{
+    due_weight < still_due(book, m)
+}
+
+// "32 when the due weight is zero or takes the sum above D, or when the eighth leaves it short"
+#[tactic(auto, unfolding(book::specs::Settlement::bad_due))]
+fn bad_due(book: &Book, m: &ValuedMatch, due_weight: u64) -> bool
+    requires { Due book.now m.now }
+    ensures { result ≡ bad_due book.now m.now.row due_weight }
+{
+    due_weight == 0
+        || still_due(book, m) < due_weight
+        || (m.row.vessels == 7 && leaves_short(book, m, due_weight))
+}
+
+// "Each vessel's weight, kilograms over (Job 2) and amount follow the rules as they now stand with its due weight for D": the amount of a vessel and beside it its kilograms over, by the book's heat table, of P the match's price, H its declared heat, the settled weight, and the measured quality.
+#[tactic(auto, using(coal::proofs::laws::Bounds::coal_weight_most), unfolding(book::specs::Settlement::vessel_amount))]
+fn vessel_amount(book: &Book, m: &ValuedMatch, due_weight: u64, sample: &Sample) -> (Amount, u64)
+    requires due { Due book.now m.now }
+    requires weight_bound { due_weight ≤ most_due }
+    ensures amount { result.0 ≡ vessel_amount book.now m.now.row due_weight sample.now.weight sample.now.quality.heat sample.now.moisture sample.now.quality.sulphur sample.now.quality.volatiles sample.now.quality.ash }
+    ensures few { result.0 ≤ most_amount }
+    ensures over { result.1 ≡ (coal_weight due_weight sample.now.weight sample.now.moisture).over }
+{
+    let weighed = coal::weight(due_weight, sample.weight, sample.moisture);
     let heat = m.row.heat.unwrap_or(0);
     let price = coal::price(
         &book.heats,
@@ -30,9 +63,9 @@ fn amount_due(book: &Book, m: &ValuedMatch, sample: &Sample) -> (Amount, u64)
         &sample.quality,
     );
     let amount = Amount {
-        fen: coal::amount(price, loaded.settled),
+        fen: coal::amount(price, weighed.settled),
     };
-    (amount, loaded.over)
+    (amount, weighed.over)
 }
 
 // "buyer gets V back and pays B; seller gets 80% of B, down; the rest is held; stage held."
@@ -49,10 +82,33 @@ fn measured(book: &mut Book, m: &ValuedMatch, amount: Amount)
     set_stage(book, m.number, amount.fen - first.fen, Stage::Held);
 }
 
-// "14 Measure match, W, Q, M, S, F, A." "W kg 0..40,000,000,000"; "these five 0..10,000"; "Measure (prepaid)". It carries the kilograms over.
+// A vessel of a match, with its amount: "The match stays prepaid until the dues add up to D; then B, the sum, is paid as before."
+#[tactic(auto, unfolding(book::specs::Settlement::loaded))]
+fn loaded(book: &mut Book, m: &ValuedMatch, due_weight: u64, amount: Amount)
+    requires due { Due book.old m.now }
+    requires dues_bound { m.now.row.loaded + due_weight ≤ most_due }
+    requires amount_bound { amount ≤ most_amount }
+    ensures { book.new ≡ loaded book.old m.now.number m.now.row due_weight amount }
+{
+    if leaves_short(book, m, due_weight) {
+        book.matches[m.number as usize].record_vessel(due_weight, amount);
+    } else {
+        let sum = Amount {
+            fen: m.row.counted + amount.fen,
+        };
+        measured(book, m, sum);
+    }
+}
+
+// "14 Measure match, W, Q, M, S, F, A."; "Measure now names the due kilograms of the vessel as well, as its last argument." "W kg 0..40,000,000,000"; "these five 0..10,000"; "Measure (prepaid)"; 32 "comes after 24". It carries the vessel's kilograms over.
 #[tactic(auto, unfolding(book::specs::Settlement::measure))]
-pub fn measure(month: &mut Month, number: u64, sample: &Sample) -> Result<u64, Refusal>
-    ensures { outcome result month.new ≡ measure month.old number sample.now.weight sample.now.quality.heat sample.now.moisture sample.now.quality.sulphur sample.now.quality.volatiles sample.now.quality.ash }
+pub fn measure(
+    month: &mut Month,
+    number: u64,
+    sample: &Sample,
+    due_weight: u64,
+) -> Result<u64, Refusal>
+    ensures { outcome result month.new ≡ measure month.old number sample.now.weight sample.now.quality.heat sample.now.moisture sample.now.quality.sulphur sample.now.quality.volatiles sample.now.quality.ash due_weight }
 {
     if !month.book.board {
         return Err(Refusal::OtherKind);
@@ -70,8 +126,11 @@ pub fn measure(month: &mut Month, number: u64, sample: &Sample) -> Result<u64, R
     {
         return Err(Refusal::MeasuredOutOfRange);
     }
-    let (amount, over) = amount_due(&month.book, &m, sample);
-    measured(&mut month.book, &m, amount);
+    if bad_due(&month.book, &m, due_weight) {
+        return Err(Refusal::BadDueWeight);
+    }
+    let (amount, over) = vessel_amount(&month.book, &m, due_weight, sample);
+    loaded(&mut month.book, &m, due_weight, amount);
     Ok(over)
 }
 

@@ -7,9 +7,10 @@ use Rattle.book.specs.declared.accounts.Account.{Account}
 use Rattle.book.specs.declared.tables.Book.{Book}
 use Rattle.book.specs.Rows.{blank_account, heat_value}
 use Rattle.book.specs.Tables.{account_at, match_at, put_account, with_fund, pay, charge}
-use Rattle.book.specs.Settlement.{value}
+use Rattle.book.specs.Settlement.{value, weight_due}
 use Rattle.book.specs.Lists.{Reached}
 use Rattle.book.proofs.laws.Counting.{at_set}
+use Rattle.book.proofs.laws.Bounds.{weight_due_most}
 use Rattle.book.proofs.laws.Sound.{Sound}
 use Rattle.book.proofs.laws.Reaching.{sound}
 use Rattle.reached.specs.Needs.{calls}
@@ -100,16 +101,22 @@ module _ (b : Book) (r : Reached b) where
   room_sound n h = record { cash = λ k. omega (arith, s.cash_few k); fund = omega (arith, s.fund_few) }
 
   pub due_sound : (j : ℕ) → j < b.match_count → Due b (valued b j)
-  unfolding value
-  due_sound j h = record {
-    receipts_few = search calls;
-    rate_few = search calls;
-    tonnes_few = search calls;
-    units_few = search calls;
-    price_few = search calls;
-    heat_few = heat_most (match_at b j).heat (s.tables.core.matches.rows j h).heat_high;
-    deal = record { buyer_there = search calls; seller_there = search calls; worth = refl };
-    room = room_sound 8 (omega arith);
-  }
+  unfolding value weight_due
+  due_sound j h =
+      let m = s.tables.core.matches.rows j h in
+      record {
+        receipts_few = search calls;
+        rate_few = search calls;
+        tonnes_few = search calls;
+        units_few = search calls;
+        price_few = search calls;
+        heat_few = heat_most (match_at b j).heat m.heat_high;
+        row = refl;
+        loaded_few = m.loaded_few;
+        vessels_few = m.vessels_few;
+        counted_few = omega (arith, weight_due_most b (match_at b j) m.few s.tables.core.terms.tonnes_few, m.loaded_few, m.vessels_few, m.counted_few);
+        deal = record { buyer_there = search calls; seller_there = search calls; worth = refl };
+        room = room_sound 8 (omega arith);
+      }
 
 pub ruleset money = (room_less, room_paid, room_charged, room_fined)

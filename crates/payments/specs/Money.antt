@@ -3,7 +3,7 @@ use Rattle.std.specs.Prelude.{◌≡◌, ℕ, ◌+◌, ◌*◌, ◌≤◌, ◌<�
 use Rattle.book.specs.declared.tables.Book.{Book}
 use Rattle.book.specs.Rows.{heat_value}
 use Rattle.book.specs.Tables.{account_at, match_at, with_fund, pay, charge}
-use Rattle.book.specs.Settlement.{value}
+use Rattle.book.specs.Settlement.{value, weight_due}
 use Rattle.payments.specs.declared.valued.ValuedMatch.{ValuedMatch}
 
 -- ---- amounts, in fen
@@ -48,6 +48,10 @@ pub record Due (b : Book) (m : ValuedMatch) : Type 0 where
   pub units_few : m.row.units ≤ 1_000
   pub price_few : m.row.price ≤ 1_000_000
   pub heat_few : heat_value m.row.heat ≤ 10_000
+  pub row : m.row ≡ match_at b m.number
+  pub loaded_few : m.row.loaded ≤ weight_due b m.row
+  pub vessels_few : m.row.vessels ≤ 7
+  pub counted_few : m.row.counted ≤ 22_000_000_000_000
   pub deal : Deal b m
   pub room : Room 8 b
 

@@ -79,7 +79,7 @@ module _ (b : Book) (r : Reached b) where
   pub match_there : (j : ℕ) → j < b.match_count → j < 256
   match_there j h = omega (arith, matches_few)
 
-  pub match_place : (j : ℕ) → j < b.match_count → Fits w64 (j * 24)
+  pub match_place : (j : ℕ) → j < b.match_count → Fits w64 (j * 40)
   match_place j h = record { fits = omega (arith, match_there j h) }
 
   pub buyer_there : (j : ℕ) → j < b.match_count → (match_at b j).buyer < 32

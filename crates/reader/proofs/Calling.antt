@@ -23,7 +23,7 @@ call_by l n =
     (pick (eqb n 2) (one_argument (get_or l 0 0) (get_or l 1 0))
     (pick (eqb n 3) (two_arguments (get_or l 0 0) (get_or l 1 0) (get_or l 2 0))
     (pick (eqb n 4) (three_arguments (get_or l 0 0) (get_or l 1 0) (get_or l 2 0) (get_or l 3 0))
-    (pick (eqb n 8) (pick (eqb (get_or l 0 0) 14) (Ok (Call.Measure (get_or l 1 0) (sample (get_or l 2 0) (get_or l 3 0) (get_or l 4 0) (get_or l 5 0) (get_or l 6 0) (get_or l 7 0)))) bad)
+    (pick (eqb n 9) (pick (eqb (get_or l 0 0) 14) (Ok (Call.Measure (get_or l 1 0) (sample (get_or l 2 0) (get_or l 3 0) (get_or l 4 0) (get_or l 5 0) (get_or l 6 0) (get_or l 7 0)) (get_or l 8 0))) bad)
     bad))))
 
 abbrev pub opening_by : List ℕ → ℕ → Result Opening BadLine
@@ -39,8 +39,9 @@ call_counted (k ∷ x ∷ y ∷ z ∷ []) = refl
 call_counted (k ∷ x ∷ y ∷ z ∷ u ∷ []) = refl
 call_counted (k ∷ x ∷ y ∷ z ∷ u ∷ v ∷ []) = refl
 call_counted (k ∷ x ∷ y ∷ z ∷ u ∷ v ∷ w ∷ []) = refl
-call_counted (k ∷ j ∷ w ∷ q ∷ m ∷ s ∷ f ∷ a ∷ []) = refl
-call_counted (k ∷ j ∷ w ∷ q ∷ m ∷ s ∷ f ∷ a ∷ n ∷ ns) = search (ne_eqb, arith)
+call_counted (k ∷ x ∷ y ∷ z ∷ u ∷ v ∷ w ∷ t ∷ []) = refl
+call_counted (k ∷ j ∷ w ∷ q ∷ m ∷ s ∷ f ∷ a ∷ d ∷ []) = refl
+call_counted (k ∷ j ∷ w ∷ q ∷ m ∷ s ∷ f ∷ a ∷ d ∷ n ∷ ns) = search (ne_eqb, arith)
 
 pub opening_counted : (l : List ℕ) → opening_of l ≡ opening_by l (length l)
 unfolding opening_of

@@ -37,8 +37,9 @@ reads (k ∷ x ∷ y ∷ z ∷ []) = either k (Call.Trade x y z) _ (either k (Ca
 reads (k ∷ x ∷ y ∷ z ∷ u ∷ []) = tt
 reads (k ∷ x ∷ y ∷ z ∷ u ∷ v ∷ []) = tt
 reads (k ∷ x ∷ y ∷ z ∷ u ∷ v ∷ w ∷ []) = tt
-reads (k ∷ j ∷ w ∷ q ∷ m ∷ s ∷ f ∷ a ∷ []) = either k (Call.Measure j (sample w q m s f a)) _ tt
-reads (k ∷ j ∷ w ∷ q ∷ m ∷ s ∷ f ∷ a ∷ n ∷ ns) = tt
+reads (k ∷ x ∷ y ∷ z ∷ u ∷ v ∷ w ∷ t ∷ []) = tt
+reads (k ∷ j ∷ w ∷ q ∷ m ∷ s ∷ f ∷ a ∷ d ∷ []) = either k (Call.Measure j (sample w q m s f a) d) _ tt
+reads (k ∷ j ∷ w ∷ q ∷ m ∷ s ∷ f ∷ a ∷ d ∷ n ∷ ns) = tt
 
 pub run_numbers : (s : List ℕ) (c : Call) → line_of s ≡ Ok c → numbers s ≡ call_number c ∷ arguments c
 unfolding line_of
@@ -60,7 +61,7 @@ reads_back (Call.Take x y) = refl
 reads_back (Call.Day x) = refl
 reads_back Call.Close = refl
 reads_back (Call.Pay x) = refl
-reads_back (Call.Measure j x) = refl
+reads_back (Call.Measure j x d) = refl
 reads_back (Call.Invoice x) = refl
 reads_back (Call.Terminate x y) = refl
 reads_back (Call.HandOver x) = refl

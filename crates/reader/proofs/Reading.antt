@@ -77,11 +77,11 @@ module _ (b : ℕ) (s : List ℕ) (d v : ℕ) (ns : List ℕ) where
   on_other o e f = grind (arith, nat_tests)
 
 -- a number ends, or there is none, or no place for it
-ended : (n : Option ℕ) (d v : ℕ) (ns : List ℕ) (x : ℕ) → Digits n d v → n ≡ Some x → length ns < 8 → (ends_number d (length ns) ≡ true) × (v ≡ x)
+ended : (n : Option ℕ) (d v : ℕ) (ns : List ℕ) (x : ℕ) → Digits n d v → n ≡ Some x → length ns < 9 → (ends_number d (length ns) ≡ true) × (v ≡ x)
 ended None d v ns x r f h = cc
 ended (Some y) d v ns x r f h = let some = r.1.some in (grind (arith, nat_tests, some), cc)
 
-not_ended : (n : Option ℕ) (d v : ℕ) (ns : List ℕ) → Digits n d v → (n ≡ None) ⊎ (length ns ≡ 8) → ends_number d (length ns) ≡ false
+not_ended : (n : Option ℕ) (d v : ℕ) (ns : List ℕ) → Digits n d v → (n ≡ None) ⊎ (length ns ≡ 9) → ends_number d (length ns) ≡ false
 not_ended None d v ns r o = grind (arith, nat_tests, r)
 not_ended (Some y) d v ns r (inl f) = cc
 not_ended (Some y) d v ns r (inr h) = grind (arith, nat_tests, h)
@@ -155,11 +155,11 @@ module _ {line text ns : List ℕ} {i : ℕ} {n : Option ℕ} (r : HalfRead line
           let t = chose_err _ _ (takes_digit r.digits r.value) (sym (takes n r.digits r.value (get_or text i 0 - 48) r.is) ∙ e) in
           on_taken ∙ rw t
 
-    pub read_space : (x : ℕ) → get_or text i 0 ≡ 32 → n ≡ Some x → length ns < 8 → HalfRead line text (i + 1) None (ns ++ (x ∷ []))
+    pub read_space : (x : ℕ) → get_or text i 0 ≡ 32 → n ≡ Some x → length ns < 9 → HalfRead line text (i + 1) None (ns ++ (x ∷ []))
     read_space x e f k = let t = ended n r.digits r.value ns x r.is f k in
         record { digits = 0; value = 0; is = (refl, refl); on = next ∙ on_space _ _ _ _ _ e ∙ rw (t.0, t.1) }
 
-    pub read_no_number : get_or text i 0 ≡ 32 → (n ≡ None) ⊎ (length ns ≡ 8) → numbers line ≡ []
+    pub read_no_number : get_or text i 0 ≡ 32 → (n ≡ None) ⊎ (length ns ≡ 9) → numbers line ≡ []
     read_no_number e o = next ∙ on_space _ _ _ _ _ e ∙ rw (not_ended n r.digits r.value ns r.is o)
 
     pub read_other : get_or text i 0 < 48 ⊎ 57 < get_or text i 0 → get_or text i 0 ≢ 32 → numbers line ≡ []
@@ -169,14 +169,14 @@ module _ {line text ns : List ℕ} {i : ℕ} {n : Option ℕ} (r : HalfRead line
     last : numbers line ≡ pick (ends_number r.digits (length ns)) (ns ++ (r.value ∷ [])) []
     last = r.on ∙ rw (drop_of_length-le text h) (on_newline 10 [] r.digits r.value ns refl refl)
 
-    pub read_end : (x : ℕ) → n ≡ Some x → length ns < 8 → ns ++ (x ∷ []) ≡ numbers line
+    pub read_end : (x : ℕ) → n ≡ Some x → length ns < 9 → ns ++ (x ∷ []) ≡ numbers line
     read_end x f k = let t = ended n r.digits r.value ns x r.is f k in sym (last ∙ rw (t.0, t.1))
 
-    pub read_nothing : (n ≡ None) ⊎ (length ns ≡ 8) → numbers line ≡ []
+    pub read_nothing : (n ≡ None) ⊎ (length ns ≡ 9) → numbers line ≡ []
     read_nothing o = last ∙ rw (not_ended n r.digits r.value ns r.is o)
 
 -- a number that has ended is one of those that are read
-pub one_read : (n : Option ℕ) (a b : List ℕ) → IfSome n (λ x. (length b < 8) × (a ≡ b ++ (x ∷ []))) × IsSome n → 0 < length a
+pub one_read : (n : Option ℕ) (a b : List ℕ) → IfSome n (λ x. (length b < 9) × (a ≡ b ++ (x ∷ []))) × IsSome n → 0 < length a
 one_read None a b r = search (rules, r)
 one_read (Some x) a b r = rw r.0.1 (omega (arith, length-append b (x ∷ [])))
 

@@ -25,7 +25,7 @@ line_length [] = 0
 line_length (b ∷ s) = pick (eqb b 10) 1 (line_length s + 1)
 
 -- ---- a line that is a call: "call number 1 to 16, then just its arguments in the order above"; "Lists and sessions may hold call 17";
--- "A list of calls or a session may now hold this one", call 18
+-- "A list of calls or a session may now hold this one", call 18; "Measure now names the due kilograms of the vessel as well, as its last argument."
 
 abbrev pub arguments : Call → List ℕ
 arguments (Call.Join residence fitness) = residence ∷ fitness ∷ []
@@ -41,7 +41,7 @@ arguments (Call.Take buyer seller) = buyer ∷ seller ∷ []
 arguments (Call.Day p) = p ∷ []
 arguments Call.Close = []
 arguments (Call.Pay j) = j ∷ []
-arguments (Call.Measure j x) = j ∷ x.weight ∷ x.quality.heat ∷ x.moisture ∷ x.quality.sulphur ∷ x.quality.volatiles ∷ x.quality.ash ∷ []
+arguments (Call.Measure j x d) = j ∷ x.weight ∷ x.quality.heat ∷ x.moisture ∷ x.quality.sulphur ∷ x.quality.volatiles ∷ x.quality.ash ∷ d ∷ []
 arguments (Call.Invoice j) = j ∷ []
 arguments (Call.Terminate j party) = j ∷ party ∷ []
 arguments (Call.HandOver j) = j ∷ []
@@ -89,8 +89,9 @@ call_of (k ∷ x ∷ y ∷ z ∷ []) = three_arguments k x y z
 call_of (k ∷ x ∷ y ∷ z ∷ u ∷ []) = bad
 call_of (k ∷ x ∷ y ∷ z ∷ u ∷ v ∷ []) = bad
 call_of (k ∷ x ∷ y ∷ z ∷ u ∷ v ∷ w ∷ []) = bad
-call_of (k ∷ j ∷ w ∷ q ∷ m ∷ s ∷ f ∷ a ∷ []) = pick (eqb k 14) (Ok (Call.Measure j (sample w q m s f a))) bad
-call_of (k ∷ j ∷ w ∷ q ∷ m ∷ s ∷ f ∷ a ∷ n ∷ ns) = bad
+call_of (k ∷ x ∷ y ∷ z ∷ u ∷ v ∷ w ∷ t ∷ []) = bad
+call_of (k ∷ j ∷ w ∷ q ∷ m ∷ s ∷ f ∷ a ∷ d ∷ []) = pick (eqb k 14) (Ok (Call.Measure j (sample w q m s f a) d)) bad
+call_of (k ∷ j ∷ w ∷ q ∷ m ∷ s ∷ f ∷ a ∷ d ∷ n ∷ ns) = bad
 
 unfoldable pub line_of : List ℕ → Result Call BadLine
 line_of s = call_of (numbers s)

@@ -16,9 +16,9 @@ abbrev pub with_digit : Option ℕ → ℕ → Result ℕ BadLine
 with_digit None c = Ok c
 with_digit (Some v) c = pick (eqb v 0) (Err (record {})) (pick (ltb v 100_000_000_000_000_000) (Ok (v * 10 + c)) (Err (record {})))
 
--- whether a number of d digits may end, with n numbers before it: no line of the form has more than eight
+-- whether a number of d digits may end, with n numbers before it: no line of the form has more than nine
 abbrev pub ends_number : ℕ → ℕ → Bool
-ends_number d n = pick (eqb d 0) false (ltb n 8)
+ends_number d n = pick (eqb d 0) false (ltb n 9)
 
 -- "lines ended by one newline": whether the byte b is a newline, with nothing after it
 abbrev pub ends_line : ℕ → List ℕ → Bool

@@ -65,7 +65,17 @@ fn call_of(numbers: &[u64]) -> Result<Call, BadLine>
         [11, price] => Ok(Call::Day { price }),
         [12] => Ok(Call::Close),
         [13, number] => Ok(Call::Pay { number }),
-        [14, number, weight, heat, moisture, sulphur, volatiles, ash] => Ok(Call::Measure {
+        [
+            14,
+            number,
+            weight,
+            heat,
+            moisture,
+            sulphur,
+            volatiles,
+            ash,
+            due_weight,
+        ] => Ok(Call::Measure {
             number,
             sample: Sample {
                 weight,
@@ -77,6 +87,7 @@ fn call_of(numbers: &[u64]) -> Result<Call, BadLine>
                     ash,
                 },
             },
+            due_weight,
         }),
         [15, number] => Ok(Call::Invoice { number }),
         [16, number, party] => Ok(Call::Terminate { number, party }),

@@ -22,10 +22,10 @@ fn with_digit(begun: Option<u64>, digit: u64) -> Result<u64, BadLine>
     }
 }
 
-// A number ends, where one has begun, and is put with the others: a line of the form has no more than eight.
-fn push(numbers: &mut ArrayVec<u64, 8>, number: Option<u64>) -> Result<(), BadLine>
-    ensures ok { OnOk result (IfSome number (λ x. (array_vec_len numbers.old < 8) × (numbers.new.items ≡ numbers.old.items ++ x ∷ [])) × IsSome number) }
-    ensures bad { OnErr result (IsNone number ⊎ (array_vec_len numbers.old ≡ 8)) }
+// A number ends, where one has begun, and is put with the others: a line of the form has no more than nine.
+fn push(numbers: &mut ArrayVec<u64, 9>, number: Option<u64>) -> Result<(), BadLine>
+    ensures ok { OnOk result (IfSome number (λ x. (array_vec_len numbers.old < 9) × (numbers.new.items ≡ numbers.old.items ++ x ∷ [])) × IsSome number) }
+    ensures bad { OnErr result (IsNone number ⊎ (array_vec_len numbers.old ≡ 9)) }
 {
     numbers
         .try_push(number.ok_or(BadLine)?)
@@ -34,7 +34,7 @@ fn push(numbers: &mut ArrayVec<u64, 8>, number: Option<u64>) -> Result<(), BadLi
 
 // The numbers of a line; "lines ended by one newline .. one space between".
 #[tactic(auto, using(crate::proofs::Reading::read))]
-pub fn read_numbers(line: &[u8]) -> Result<ArrayVec<u64, 8>, BadLine>
+pub fn read_numbers(line: &[u8]) -> Result<ArrayVec<u64, 9>, BadLine>
     ensures read { IfOk result (λ v. (v.items ≡ numbers line.now) × (0 < array_vec_len v)) }
     ensures bad { OnErr result (numbers line.now ≡ []) }
 {

@@ -20,7 +20,7 @@ use Rattle.text.specs.Ledger.{each, account_row, receipt_row, match_row, ledger}
 use Rattle.text.specs.Page.{right, padded, yuan, account_columns, receipt_columns, account_entry, receipt_entry, match_entry, page, lent, page_answer}
 
 paired : ℕ → Stage → Match
-paired x s = record { held = x; price = 600_000; units = 1; due = 1; heat = None; buyer = 1; seller = 0; stage = s }
+paired x s = record { held = x; loaded = 0; counted = 0; price = 600_000; units = 1; due = 1; heat = None; buyer = 1; seller = 0; stage = s; vessels = 0 }
 
 worked : Book
 worked =

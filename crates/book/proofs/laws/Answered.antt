@@ -1,11 +1,12 @@
 -- The refusals of all eighteen calls, gone through once: a call is refused and leaves the book, or it is accepted, none of its conditions applies,
 -- and it leaves the book that its rule says. A law of single calls goes by cases on this. Assumes nothing.
-use Rattle.std.specs.Prelude.{◌≡◌, List, refl, Bool, true, false, not, ◌&&◌, ℕ, ◌+◌, ◌-◌, ◌≤◌, ◌<◌, ltb, pos, Option, Some, None}
-use Rattle.std.proofs.Common.{sym, ap, ◌∙◌, arith, ltb-true, ltb-false, leb-false, eqb-true}
+use Rattle.std.specs.Prelude.{◌≡◌, List, refl, Bool, true, false, not, ◌&&◌, ◌||◌, ℕ, ◌+◌, ◌-◌, ◌≤◌, ◌<◌, ltb, eqb, pos, Option, Some, None}
+use Rattle.std.proofs.Common.{sym, ap, ◌∙◌, arith, ltb-true, ltb-false, leb-false, eqb-true, eq-eqb}
 use Rattle.std.proofs.lemmas.Bool.{eqb-false, not-false}
 use Rattle.std.specs.Int.Signed.{lt_z}
-use Rattle.book.specs.Types.{ReceiptState, Stage, Book, Outcome, Call}
+use Rattle.book.specs.Types.{ReceiptState, Stage, Match, Book, Outcome, Call}
 use Rattle.book.specs.Rows.{needs_fifth, with_heat, with_offer, with_state, long_units, short_units, is_long, is_short, offer_missing, offer_units, heat_missing, is_struck, is_frozen, is_paired, is_prepaid, is_held, is_funded, is_awaiting, any_class}
+use Rattle.coal.specs.Coal.{coal_weight}
 use Rattle.book.specs.Codes.{sample}
 use Rattle.book.specs.Tables.{account_at, receipt_at, match_at, add_account, add_receipt, put_account, put_receipt, with_deposited, with_day, with_open, pay, charge, free_receipts}
 use Rattle.book.specs.Answers.{refuse, refuse_if, accept, refusal_of}
@@ -15,7 +16,7 @@ use Rattle.book.specs.Receipts.{lodge, strike, new_receipt}
 use Rattle.book.specs.Pairing.{pair}
 use Rattle.book.specs.Offers.{declare, offer, retract, take_offer, end_offer}
 use Rattle.book.specs.Closing.{close, all_passes, lapse_offers}
-use Rattle.book.specs.Settlement.{value, set_stage, pay_match, paid, buyer_fault, seller_fault, measure, measured, cargo, amount_due, invoice, terminate, terminated, hand_over, handed, auction, auctioned}
+use Rattle.book.specs.Settlement.{value, set_stage, pay_match, paid, buyer_fault, seller_fault, weight_due, vessel_amount, leaves_short, bad_due, loaded, measure, invoice, terminate, terminated, hand_over, handed, auction, auctioned}
 use Rattle.book.specs.Calls.{step}
 use Rattle.heats.specs.HeatTables.{IsHeatTable}
 use Rattle.heats.specs.Numerators.{heat_table}
@@ -112,7 +113,13 @@ pub record MayPay (b : Book) (j : ℕ) : Type 0 where
   pub paired : (match_at b j).stage ≡ Stage.Paired
   pub due : (match_at b j).due ≤ b.day
 
-pub record MayMeasure (b : Book) (j w q m s f a : ℕ) : Type 0 where
+-- a due weight d that match c of book b may have loaded
+pub record MayLoad (b : Book) (c : Match) (d : ℕ) : Type 0 where
+  pub some : 0 < d
+  pub within : c.loaded + d ≤ weight_due b c
+  pub eighth : c.vessels ≡ 7 → leaves_short b c d ≡ false
+
+pub record MayMeasure (b : Book) (j w q m s f a d : ℕ) : Type 0 where
   pub is_board : b.board ≡ true
   pub there : j < b.match_count
   pub prepaid : (match_at b j).stage ≡ Stage.Prepaid
@@ -122,6 +129,7 @@ pub record MayMeasure (b : Book) (j w q m s f a : ℕ) : Type 0 where
   pub s_few : s ≤ 10_000
   pub f_few : f ≤ 10_000
   pub a_few : a ≤ 10_000
+  pub due : MayLoad b (match_at b j) d
 
 pub record MayInvoice (b : Book) (j : ℕ) : Type 0 where
   pub there : j < b.match_count
@@ -162,7 +170,7 @@ pub data Answered (b : Book) : Call → Outcome → Type 0 where
   days : {p : ℕ} → MayDay b p → Answered b (Call.Day p) (accept (b.day + 1) (with_day b p (b.day + 1)))
   closes : MayClose b → Answered b Call.Close (accept ((all_passes b).match_count - b.match_count) (with_open (lapse_offers (all_passes b)) false))
   pays : {j : ℕ} → MayPay b j → Answered b (Call.Pay j) (accept 0 (paid b j (match_at b j) (buyer_fault b j) (seller_fault b j)))
-  measures : {j w q m s f a : ℕ} → MayMeasure b j w q m s f a → Answered b (Call.Measure j (sample w q m s f a)) (accept (cargo b (match_at b j) w m).over (measured b j (match_at b j) (amount_due b (match_at b j) w q m s f a)))
+  measures : {j w q m s f a d : ℕ} → MayMeasure b j w q m s f a d → Answered b (Call.Measure j (sample w q m s f a) d) (accept (coal_weight d w m).over (loaded b j (match_at b j) d (vessel_amount b (match_at b j) d w q m s f a)))
   invoices : {j : ℕ} → MayInvoice b j → Answered b (Call.Invoice j) (accept 0 (set_stage (pay b (match_at b j).seller (match_at b j).held) j 0 Stage.Closed))
   terminates : {j party : ℕ} → MayTerminate b j party → Answered b (Call.Terminate j party) (accept 0 (terminated b j (match_at b j) party))
   hands_over : {j : ℕ} → MayHandOver b j → Answered b (Call.HandOver j) (accept 0 (handed b j (match_at b j) (value b (match_at b j)) (match_at b j).buyer))
@@ -182,6 +190,19 @@ both_not false t h e = cc
 
 flipped : (t : Bool) → t ≡ false → not t ≡ true
 flipped t e = rw e refl
+
+-- neither of two conditions
+neither : (s t : Bool) → (s || t) ≡ false → (s ≡ false) × (t ≡ false)
+neither true t h = cc
+neither false t h = (refl, h)
+
+-- none of the conditions of refusal 32
+pub may_load : (b : Book) (c : Match) (d : ℕ) → bad_due b c d ≡ false → MayLoad b c d
+unfolding bad_due
+may_load b c d e =
+    let z = neither (eqb d 0 || ltb (weight_due b c) (c.loaded + d)) (eqb c.vessels 7 && leaves_short b c d) e in
+    let y = neither (eqb d 0) (ltb (weight_due b c) (c.loaded + d)) z.0 in
+    record { some = let n = eqb-false d 0 y.0 in omega arith; within = ltb-false _ _ y.1; eighth = λ v. both_not (eqb c.vessels 7) (leaves_short b c d) z.1 (eq-eqb _ _ v) }
 
 paired_is : (s : Stage) → not (is_paired s) ≡ false → s ≡ Stage.Paired
 paired_is Stage.Paired e = refl
@@ -247,7 +268,7 @@ declared_is h e m = impossible (cc (rw m at e))
 ruleset accepted = (joins, deposits, withdraws, trades, lodges, strikes, declares, offers, retracts, takes, days, closes, pays, measures, invoices, terminates, hands_over, auctions)
 
 -- test after test, the accepted answer behind them, and what each test that does not hold says
-ruleset tests = (test, refl, accepted, ltb-false, leb-false, eqb-true, eqb-false, not-false, both_not, flipped, paired_is, prepaid_is, held_is, funded_is, awaiting_is, free_is, missing_is, standing_is, declared_is)
+ruleset tests = (test, refl, accepted, ltb-false, leb-false, eqb-true, eqb-false, not-false, both_not, flipped, paired_is, prepaid_is, held_is, funded_is, awaiting_is, free_is, missing_is, standing_is, declared_is, may_load)
 
 pub answered : (b : Book) (c : Call) → Answered b c (step b c)
 unfolding step join deposit withdraw trade lodge strike declare offer retract take_offer next_day close pay_match measure invoice terminate hand_over auction
@@ -264,7 +285,7 @@ answered b (Call.Take buyer seller) = search tests depth 16
 answered b (Call.Day p) = search tests depth 16
 answered b Call.Close = search tests depth 16
 answered b (Call.Pay j) = search tests depth 16
-answered b (Call.Measure j x) = search tests depth 16
+answered b (Call.Measure j x d) = search tests depth 16
 answered b (Call.Invoice j) = search tests depth 16
 answered b (Call.Terminate j party) = search tests depth 16
 answered b (Call.HandOver j) = search tests depth 16
@@ -313,7 +334,7 @@ module _ (b : Book) where
   pay_goes (refused n p) h = absurd (omega arith)
   pay_goes (pays g) h = (g, refl)
 
-  measure_goes : {j w q m s f a : ℕ} {o : Outcome} → Answered b (Call.Measure j (sample w q m s f a)) o → refusal_of o.answer ≡ 0 → MayMeasure b j w q m s f a × (accept (cargo b (match_at b j) w m).over (measured b j (match_at b j) (amount_due b (match_at b j) w q m s f a)) ≡ o)
+  measure_goes : {j w q m s f a d : ℕ} {o : Outcome} → Answered b (Call.Measure j (sample w q m s f a) d) o → refusal_of o.answer ≡ 0 → MayMeasure b j w q m s f a d × (accept (coal_weight d w m).over (loaded b j (match_at b j) d (vessel_amount b (match_at b j) d w q m s f a)) ≡ o)
   measure_goes (refused n p) h = absurd (omega arith)
   measure_goes (measures g) h = (g, refl)
 
@@ -349,9 +370,9 @@ module _ (b : Book) where
   unfolding step
   pay_accepted j e h = pay_goes (answered b (Call.Pay j)) (sym e ∙ h)
 
-  pub measure_accepted : (j w q m s f a : ℕ) {n : ℕ} → n ≡ refusal_of (measure b j w q m s f a).answer → n ≡ 0 → MayMeasure b j w q m s f a × (accept (cargo b (match_at b j) w m).over (measured b j (match_at b j) (amount_due b (match_at b j) w q m s f a)) ≡ measure b j w q m s f a)
+  pub measure_accepted : (j w q m s f a d : ℕ) {n : ℕ} → n ≡ refusal_of (measure b j w q m s f a d).answer → n ≡ 0 → MayMeasure b j w q m s f a d × (accept (coal_weight d w m).over (loaded b j (match_at b j) d (vessel_amount b (match_at b j) d w q m s f a)) ≡ measure b j w q m s f a d)
   unfolding step
-  measure_accepted j w q m s f a e h = measure_goes (answered b (Call.Measure j (sample w q m s f a))) (sym e ∙ h)
+  measure_accepted j w q m s f a d e h = measure_goes (answered b (Call.Measure j (sample w q m s f a) d)) (sym e ∙ h)
 
   pub invoice_accepted : (j : ℕ) {n : ℕ} → n ≡ refusal_of (invoice b j).answer → n ≡ 0 → MayInvoice b j × (accept 0 (set_stage (pay b (match_at b j).seller (match_at b j).held) j 0 Stage.Closed) ≡ invoice b j)
   unfolding step

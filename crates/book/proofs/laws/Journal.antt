@@ -19,7 +19,7 @@ use Rattle.book.proofs.laws.Counting.{at_set, sum_add}
 use Rattle.book.proofs.laws.Answered.{Answered, answered}
 use Rattle.book.proofs.laws.Sound.{Core, SoundTables}
 use Rattle.book.proofs.laws.Posting.{Posted}
-use Rattle.book.proofs.laws.Settling.{rank, Settlement, pay_settles, measure_settles, invoice_settles, terminate_settles, hand_over_settles, auction_settles}
+use Rattle.book.proofs.laws.Settling.{rank, Settlement, Loads, vessel_sum, pay_settles, measure_loads, invoice_settles, terminate_settles, hand_over_settles, auction_settles}
 use Rattle.book.proofs.laws.Calls.{deposit_posted, withdraw_posted}
 use Rattle.book.proofs.laws.Pairing.{Pairable, pair_core}
 use Rattle.book.proofs.laws.Closing.{passes_keep, lapsed}
@@ -105,7 +105,20 @@ pub data Change (b : Book) : List Entry → ℕ → ℕ → Bool → Book → Ty
   joined : (a : Account) → a.cash ≡ pos 0 → Change b [] 0 0 true (add_account b a)
   paid_in : (k x : ℕ) → k < b.account_count → Posted b.accounts (pay (with_deposited b (b.deposited + x)) k x).accounts (plus k x ∷ []) → Change b (plus k x ∷ []) x 0 true (pay (with_deposited b (b.deposited + x)) k x)
   paid_out : (k x : ℕ) → k < b.account_count → lt_z (account_at b k).cash (pos x) ≡ false → Posted b.accounts (charge b k x).accounts (minus k x ∷ []) → Change b (minus k x ∷ []) 0 x true (charge b k x)
-  settled : {es : List Entry} {e : Book} → Settlement b es e → Change b es 0 0 true e
+  settled : {j : ℕ} {es : List Entry} {e : Book} → Settlement b j es e → Change b es 0 0 true e
+
+loaded : {b e : Book} {es : List Entry} → Loads b es e → SoundTables b → Change b es 0 0 true e
+unfolding total_held stages
+loaded {b} (Loads.records j d x p s t) r = kept (record {
+  count = refl;
+  cash = λ k. refl;
+  held = vessel_sum b (λ m. m.held) j d x p r refl;
+  stages = vessel_sum b (λ m. rank m.stage) j d x p r refl;
+  fund = refl;
+  deposited = refl;
+  heats = refl;
+})
+loaded (Loads.settles s) r = settled s
 
 change : {b : Book} {c : Call} {o : Outcome} → Answered b c o → SoundTables b → Change b (entries b c) (amounts c).deposited (amounts c).withdrawn (is_accepted o.answer) o.book
 unfolding entries amounts
@@ -123,7 +136,7 @@ change {b} (Answered.takes {buyer = m} {seller = n} g) r = kept (kept_then (kept
 change {b} (Answered.days {p = p} g) r = kept (kept_frame b b.receipts b.receipt_count p (b.day + 1) b.«open»)
 change {b} (Answered.closes g) r = kept (kept_close b r g.is_open)
 change {b} (Answered.pays {j = j} g) r = settled (pay_settles b r j g.there g.paired)
-change {b} (Answered.measures {j = j} {w = w} {q = q} {m = m} {s = s} {f = f} {a = a} g) r = settled (measure_settles b r j g.there g.prepaid w q m s f a)
+change {b} (Answered.measures {j = j} {w = w} {q = q} {m = m} {s = s} {f = f} {a = a} {d = d} g) r = loaded (measure_loads b r j g.there g.prepaid d w q m s f a g.due) r
 change {b} (Answered.invoices {j = j} g) r = settled (invoice_settles b r j g.there g.in_hold)
 change {b} (Answered.terminates {j = j} {party = party} g) r = settled (terminate_settles b r j g.there g.prepaid party)
 change {b} (Answered.hands_over {j = j} g) r = settled (hand_over_settles b r j g.there g.funded)

@@ -104,9 +104,9 @@ change_money b r z (paid_in k x h p) =
     ap (λ (t : ℤ). t +ℤ pos (total_held b) +ℤ pos b.fund) (total_moved b (pay (with_deposited b (b.deposited + x)) k x) (plus k x ∷ []) refl (posted_cash p) (h, tt)) ∙ in_change (total_cash b) (pos (total_held b)) (pos b.fund) x
 change_money b r z (paid_out k x h n p) =
     ap (λ (t : ℤ). t +ℤ pos (total_held b) +ℤ pos b.fund) (total_moved b (charge b k x) (minus k x ∷ []) refl (posted_cash p) (h, tt)) ∙ out_change (total_cash b) (pos (total_held b)) (pos b.fund) x
-change_money b r z (settled {es = es} {e = e} s) =
+change_money b r z (settled {j = j} {es = es} {e = e} s) =
     rw (total_moved b e es (ap (λ (x : Book). x.account_count) s.same) (posted_cash s.posted) s.within, s.fund)
-    (settled_change (total_cash b) (all_entries es) b.fund s.gained (total_held e) (match_at b s.number).held (total_held b) s.held (settlement_sum (λ (m : Match). m.held) s r) s.even)
+    (settled_change (total_cash b) (all_entries es) b.fund s.gained (total_held e) (match_at b j).held (total_held b) s.held (settlement_sum (λ (m : Match). m.held) s r) s.even)
 
 -- ---- lists
 

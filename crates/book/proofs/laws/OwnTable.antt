@@ -8,11 +8,11 @@ use Rattle.book.specs.Types.{Book, Call, Outcome}
 use Rattle.book.specs.Tables.{pay, charge}
 use Rattle.book.specs.Answers.{refuse_if, is_accepted}
 use Rattle.book.specs.Opening.{no_book, opening}
-use Rattle.book.specs.Settlement.{amount_due}
+use Rattle.book.specs.Settlement.{vessel_amount}
 use Rattle.book.specs.Entries.{Entry}
 use Rattle.book.specs.Calls.{step}
 use Rattle.book.specs.Lists.{after}
-use Rattle.book.specs.OwnTable.{due_from, heat_of, OwnTables}
+use Rattle.book.specs.OwnTable.{amount_from, heat_of, OwnTables}
 use Rattle.book.proofs.laws.Sound.{SoundTables}
 use Rattle.book.proofs.laws.Calls.{opening_tables}
 use Rattle.book.proofs.laws.Steps.{step_tables}
@@ -43,13 +43,13 @@ list_keeps b [] s = refl
 list_keeps b (c ∷ cs) s = list_keeps (step b c).book cs (step_tables b c s) ∙ unchanged (changed b c s)
 
 pub own_table : OwnTables
-unfolding amount_due coal_price
+unfolding vessel_amount coal_price
 own_table heats i kind t r p a cs =
     let b = (opening heats kind t r p).book in
     let e = after b cs in
     let k : e.heats ≡ heats = list_keeps b cs (opening_tables heats i kind t r p) ∙ opened_with heats kind t r p a in
     record {
       kept = k;
-      by_entry = λ c w q m s f x h. rw (k) (ap (λ (n : ℕ). due_from n e c w q m s f x) (sym (by_entry c.price (heat_of c q) heats h)));
-      by_formula = λ c w q m s f x h. rw (k) (ap (λ (n : ℕ). due_from n e c w q m s f x) (sym (below_table c.price (heat_of c q) heats h)));
+      by_entry = λ c d w q m s f x h. rw (k) (ap (λ (n : ℕ). amount_from n c d w q m s f x) (sym (by_entry c.price (heat_of c q) heats h)));
+      by_formula = λ c d w q m s f x h. rw (k) (ap (λ (n : ℕ). amount_from n c d w q m s f x) (sym (below_table c.price (heat_of c q) heats h)));
     }

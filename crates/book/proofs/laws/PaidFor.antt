@@ -3,7 +3,7 @@ use Rattle.std.specs.Prelude.{◌≡◌, Bool, true, List, ℕ, ◌≤◌, ◌<�
 use Rattle.std.proofs.Common.{sym, ap, ◌∙◌, subst, arith, get_or-set_same, get_or-set_other}
 use Rattle.book.specs.Types.{ReceiptState, Receipt, Match, Book, Outcome, Call}
 use Rattle.book.specs.Counting.{one_if}
-use Rattle.book.specs.Rows.{blank_match, any_class, offer_units, is_frozen_for, is_paid_for, with_held}
+use Rattle.book.specs.Rows.{blank_match, any_class, offer_units, is_frozen_for, is_paid_for, with_held, with_vessel}
 use Rattle.book.specs.Tables.{account_at, receipt_at, match_at, add_receipt, put_receipt, frozen_at, frozen_receipts, pay, charge}
 use Rattle.book.specs.Receipts.{new_receipt}
 use Rattle.book.specs.Pairing.{pair}
@@ -12,11 +12,11 @@ use Rattle.book.specs.Settlement.{value}
 use Rattle.book.specs.Entries.{Entry}
 use Rattle.book.specs.Lists.{Reached, opened, called}
 use Rattle.book.specs.PaidFor.{EachPaidFor}
-use Rattle.book.proofs.laws.Counting.{by_pick, by_eq, tally_most, impossible}
+use Rattle.book.proofs.laws.Counting.{by_pick, by_eq, at_set, tally_most, impossible}
 use Rattle.book.proofs.laws.Answered.{Answered, answered, of_opening}
 use Rattle.book.proofs.laws.Sound.{frozen_of, Core, SoundTables}
 use Rattle.book.proofs.laws.Tables.{frozen_add, frozen_set}
-use Rattle.book.proofs.laws.Settling.{Settlement, pay_settles, measure_settles, invoice_settles, terminate_settles, hand_over_settles, auction_settles}
+use Rattle.book.proofs.laws.Settling.{Settlement, Loads, pay_settles, measure_loads, invoice_settles, terminate_settles, hand_over_settles, auction_settles}
 use Rattle.book.proofs.laws.Freezing.{newly, newly_free}
 use Rattle.book.proofs.laws.Pairing.{Pairable, pair_core, pair_receipt, paired_receipts, paired_new, paired_old, paired_matches}
 use Rattle.book.proofs.laws.Closing.{passes_keep}
@@ -29,16 +29,22 @@ Full b = (j : ℕ) → j < b.match_count → is_paid_for (match_at b j).stage �
 
 -- ---- a settlement
 
-full_settled : {b e : Book} {es : List Entry} → SoundTables b → Settlement b es e → Full b → Full e
+full_settled : {b e : Book} {n : ℕ} {es : List Entry} → SoundTables b → Settlement b n es e → Full b → Full e
 unfolding frozen_receipts
-full_settled {b} {e} r s f =
-    let n = s.number in
+full_settled {b} {e} {n = n} r s f =
     let c = with_held (match_at b n) s.held s.stage in
     let rows = e.receipts in
     subst Full (sym s.same) (λ k. by_eq k n
     (λ q. subst (λ (i : ℕ). i < b.match_count → is_paid_for (get_or (set b.matches n c) i blank_match).stage ≡ true → (get_or (set b.matches n c) i blank_match).units ≤ frozen_of b.receipt_count rows i) (sym q)
     (λ h. rw (get_or-set_same b.matches n c blank_match (omega (arith, r.core.matches.size, r.core.matches.few))) s.all_frozen))
     (λ q h. rw (get_or-set_other b.matches n k c blank_match q) (λ g. omega (arith, f k h g, s.others k q))))
+
+full_loaded : {b e : Book} {es : List Entry} → SoundTables b → Loads b es e → Full b → Full e
+unfolding frozen_receipts
+full_loaded {b} r (Loads.records j d x p s t) f = λ k.
+    at_set (λ (m : Match). k < b.match_count → is_paid_for m.stage ≡ true → m.units ≤ frozen_of b.receipt_count b.receipts k) b.matches j k (with_vessel (match_at b j) d x) blank_match
+    (λ q. subst (λ (i : ℕ). k < b.match_count → is_paid_for (match_at b i).stage ≡ true → (match_at b i).units ≤ frozen_of b.receipt_count b.receipts k) q (f k)) (f k)
+full_loaded r (Loads.settles s) f = full_settled r s f
 
 -- ---- receipts lodged and struck
 
@@ -88,7 +94,7 @@ full {b} (Answered.takes {buyer = m} {seller = n} g) r f = full_pair b any_class
 full (Answered.days g) r f = f
 full {b} (Answered.closes g) r f = (passes_keep Full (λ e c x y u k g h. full_pair e c 1 x y u (omega arith) k g h) b (r.matches_open g.is_open) r.core f).kept
 full {b} (Answered.pays {j = j} g) r f = full_settled r (pay_settles b r j g.there g.paired) f
-full {b} (Answered.measures {j = j} {w = w} {q = q} {m = m} {s = s} {f = v} {a = a} g) r f = full_settled r (measure_settles b r j g.there g.prepaid w q m s v a) f
+full {b} (Answered.measures {j = j} {w = w} {q = q} {m = m} {s = s} {f = v} {a = a} {d = d} g) r f = full_loaded r (measure_loads b r j g.there g.prepaid d w q m s v a g.due) f
 full {b} (Answered.invoices {j = j} g) r f = full_settled r (invoice_settles b r j g.there g.in_hold) f
 full {b} (Answered.terminates {j = j} {party = party} g) r f = full_settled r (terminate_settles b r j g.there g.prepaid party) f
 full {b} (Answered.hands_over {j = j} g) r f = full_settled r (hand_over_settles b r j g.there g.funded) f

@@ -3,7 +3,8 @@
 -- that. Assumes nothing.
 use Rattle.std.specs.Prelude.{◌≡◌, ◌≢◌, Bool, not, ℕ, ◌+◌, ◌-◌, ◌*◌, ◌≤◌, ◌<◌, ltb, eqb, neg_ℤ, ◌+ℤ◌, length, get_or, set, Option, Some, None}
 use Rattle.std.proofs.Math.Path.{refl, ap, subst}
-use Rattle.std.proofs.Common.{sym, ◌∙◌, arith, eqb-true, ltb-false, ne_eqb}
+use Rattle.std.proofs.Common.{sym, ◌∙◌, arith, eqb-true, ltb-true, ltb-false, ne_eqb}
+use Rattle.std.proofs.Math.Nat.{mul-pos}
 use Rattle.std.proofs.Math.Bool.{true, false}
 use mathlib.Core.List.{List, [], ◌∷◌}
 use Rattle.std.proofs.Math.IntN.{pos, +ℤ_idr, +ℤ_assoc}
@@ -15,14 +16,15 @@ use Rattle.whole.specs.Ring.{ring}
 use Rattle.whole.specs.Whole.{pos_minus, natAbs_neg}
 use Rattle.book.specs.Types.{ReceiptState, Stage, Account, Receipt, Match, Book}
 use Rattle.book.specs.Counting.{iter, sum, one_if}
-use Rattle.book.specs.Rows.{blank_receipt, blank_match, is_frozen, is_frozen_for, has_frozen, is_paid_for, with_held, with_state}
+use Rattle.book.specs.Rows.{blank_receipt, blank_match, is_frozen, is_frozen_for, has_frozen, is_paid_for, with_held, with_vessel, with_state}
 use Rattle.book.specs.Tables.{account_at, match_at, put_match, with_accounts, with_receipts, with_fund, pay, charge, frozen_receipts}
-use Rattle.book.specs.Settlement.{value, seller_fault, buyer_fault, penalty, punish, release_turn, free_again, pass_turn, pass_receipts, set_stage, first_part, into_held, to_auction, paid_stage, fault_ended, paid, amount_due, measured, terminated, handed, sold, no_bid_part, unsold, auctioned}
-use Rattle.book.specs.Entries.{Entry, plus, minus, penalty_entries, pay_entries, measure_entries, terminate_entries, hand_over_entries, auction_entries}
-use Rattle.book.proofs.laws.Counting.{by_pick, rows_add, iter_keeps, sum_set, impossible}
+use Rattle.book.specs.Settlement.{value, seller_fault, buyer_fault, penalty, punish, release_turn, free_again, pass_turn, pass_receipts, set_stage, first_part, into_held, to_auction, paid_stage, fault_ended, paid, weight_due, vessel_amount, leaves_short, measured, loaded, terminated, handed, sold, no_bid_part, unsold, auctioned}
+use Rattle.book.specs.Entries.{Entry, plus, minus, penalty_entries, pay_entries, measure_entries, vessel_entries, terminate_entries, hand_over_entries, auction_entries}
+use Rattle.book.proofs.laws.Counting.{by_pick, by_eq, rows_add, iter_keeps, sum_set, impossible}
 use Rattle.book.proofs.laws.Sound.{SoundMatch, frozen_of, ReceiptTable, SoundTables}
 use Rattle.book.proofs.laws.Tables.{matches_put, receipts_put, receipts_rematched, receipts_restaged, NoneFrozen, not_frozen, unfrozen_for, frozen_set}
-use Rattle.book.proofs.laws.Bounds.{value_most, due_most}
+use Rattle.book.proofs.laws.Answered.{MayLoad}
+use Rattle.book.proofs.laws.Bounds.{value_most, weight_due_most, vessel_most}
 use Rattle.book.proofs.laws.Posting.{Within, all_entries, weight, Posted, posted_none, post, posted_accounts, posted_offers}
 
 -- how far a match has come: a settlement takes it on
@@ -44,9 +46,8 @@ pub record Freed (n m : ℕ) (ms : List Match) (board : Bool) (count j i : ℕ) 
   pub table : ReceiptTable n m ms board count l
   pub done : NoneFrozen i l j
 
--- from b to e one match is settled, with these entries
-pub record Settlement (b : Book) (es : List Entry) (e : Book) : Type 0 where
-  pub number : ℕ
+-- from b to e the match of this number is settled, with these entries
+pub record Settlement (b : Book) (number : ℕ) (es : List Entry) (e : Book) : Type 0 where
   pub there : number < b.match_count
   pub held : ℕ
   pub stage : Stage
@@ -65,21 +66,35 @@ pub record Settlement (b : Book) (es : List Entry) (e : Book) : Type 0 where
   pub others : (k : ℕ) → k ≢ number → frozen_of b.receipt_count b.receipts k ≤ frozen_of b.receipt_count e.receipts k
   pub all_frozen : is_paid_for stage ≡ true → (match_at b number).units ≤ frozen_of b.receipt_count e.receipts number
 
-settlement_if : {b e d : Book} {es ds : List Entry} (t : Bool) → Settlement b es e → Settlement b ds d → Settlement b (pick t es ds) (pick t e d)
+settlement_if : {b e d : Book} {j : ℕ} {es ds : List Entry} (t : Bool) → Settlement b j es e → Settlement b j ds d → Settlement b j (pick t es ds) (pick t e d)
 settlement_if true s r = s
 settlement_if false s r = r
 
-pub settlement_tables : {b e : Book} {es : List Entry} → Settlement b es e → SoundTables b → SoundTables e
+pub settlement_tables : {b e : Book} {j : ℕ} {es : List Entry} → Settlement b j es e → SoundTables b → SoundTables e
 settlement_tables {b} s r =
     let l = s.receipts in
     subst SoundTables (sym s.same) (search (posted_accounts, posted_offers, matches_put))
+
+-- from b to e a vessel of a match is measured, with these entries: it is recorded, or the match is settled
+pub data Loads (b : Book) : List Entry → Book → Type 0 where
+  records : (j d x : ℕ) → j < b.match_count → SoundMatch b.account_count b.day b.tonnes b.board (with_vessel (match_at b j) d x)
+      → ReceiptTable b.account_count b.match_count (set b.matches j (with_vessel (match_at b j) d x)) b.board b.receipt_count b.receipts → Loads b [] (put_match b j (with_vessel (match_at b j) d x))
+  settles : {j : ℕ} {es : List Entry} {e : Book} → Settlement b j es e → Loads b es e
+
+loads_if : {b e d : Book} {es ds : List Entry} (t : Bool) → (t ≡ true → Loads b es e) → (t ≡ false → Loads b ds d) → Loads b (pick t es ds) (pick t e d)
+loads_if true f g = f refl
+loads_if false f g = g refl
+
+pub loads_tables : {b e : Book} {es : List Entry} → Loads b es e → SoundTables b → SoundTables e
+loads_tables (Loads.records j d x p s t) r = search matches_put
+loads_tables (Loads.settles s) r = settlement_tables s r
 
 -- ---- the match
 
 -- what a match may hold at a stage
 abbrev Holding : ℕ → Bool → Match → ℕ → Stage → Type 0
 Holding tonnes board m x Stage.Paired = x ≡ 0
-Holding tonnes board m x Stage.Prepaid = (x ≡ m.units * m.price * tonnes) × (board ≡ true) × (m.heat ≡ None → ⊥)
+Holding tonnes board m x Stage.Prepaid = (x ≡ m.units * m.price * tonnes) × (board ≡ true) × (m.heat ≡ None → ⊥) × (0 < m.units * tonnes * 1_000)
 Holding tonnes board m x Stage.Held = Unit {0}
 Holding tonnes board m x Stage.Closed = x ≡ 0
 Holding tonnes board m x Stage.Ended = x ≡ 0
@@ -102,9 +117,10 @@ staged {tonnes = tonnes} {board} {m} x s h g r =
     let value : s ≡ Stage.Prepaid → x ≡ m.units * m.price * tonnes = λ e. (at Stage.Prepaid e).0 in
     let kind : s ≡ Stage.Prepaid → board ≡ true = λ e. (at Stage.Prepaid e).1 in
     let heat : s ≡ Stage.Prepaid → m.heat ≡ None → ⊥ = λ e. (at Stage.Prepaid e).2 in
+    let weight : s ≡ Stage.Prepaid → 0 < m.units * tonnes * 1_000 = λ e. (at Stage.Prepaid e).3 in
     let worth : is_paid_for s ≡ true → x ≡ m.units * m.price * tonnes = λ e. (paid_for tonnes board m x s g e).0 in
     let not-board : is_paid_for s ≡ true → board ≡ false = λ e. (paid_for tonnes board m x s g e).1 in
-    search (at Stage.Paired, at Stage.Closed, at Stage.Ended)
+    search (at Stage.Paired, at Stage.Closed, at Stage.Ended, arith)
 
 -- ---- the receipts
 
@@ -268,13 +284,16 @@ module _ (b : Book) (r : SoundTables b) (j : ℕ) (p : j < b.match_count) where
   value_few : value b (match_at b j) ≤ 20_000_000_000_000
   value_few = value_most b (match_at b j) row.few row.price_high r.core.terms.tonnes_few
 
+  pub weight_some : 0 < weight_due b (match_at b j)
+  unfolding weight_due
+  weight_some = let h : 0 < (match_at b j).units * b.tonnes = mul-pos row.some r.core.terms.tonnes_some in omega arith
+
   -- "Invoice (held): the money held goes to the seller; closed."
-  pub invoice_settles : (match_at b j).stage ≡ Stage.Held → Settlement b (plus (match_at b j).seller (match_at b j).held ∷ []) (set_stage (pay b (match_at b j).seller (match_at b j).held) j 0 Stage.Closed)
+  pub invoice_settles : (match_at b j).stage ≡ Stage.Held → Settlement b j (plus (match_at b j).seller (match_at b j).held ∷ []) (set_stage (pay b (match_at b j).seller (match_at b j).held) j 0 Stage.Closed)
   unfolding all_entries weight pay
   invoice_settles s =
       let m = match_at b j in
       record {
-        number = j;
         there = p;
         held = 0;
         stage = Stage.Closed;
@@ -294,18 +313,14 @@ module _ (b : Book) (r : SoundTables b) (j : ℕ) (p : j < b.match_count) where
       }
 
   -- "buyer gets V back and pays B; seller gets 80% of B, down; the rest is held; stage held."
-  pub measure_settles : (match_at b j).stage ≡ Stage.Prepaid → (w q m s f a : ℕ)
-      → Settlement b (measure_entries b (match_at b j) (amount_due b (match_at b j) w q m s f a)) (measured b j (match_at b j) (amount_due b (match_at b j) w q m s f a))
+  measure_settles : (match_at b j).stage ≡ Stage.Prepaid → (x : ℕ) → x ≤ 22_000_000_000_000 → Settlement b j (measure_entries b (match_at b j) x) (measured b j (match_at b j) x)
   unfolding all_entries weight measured measure_entries pay charge value
-  measure_settles t w q m s f a =
+  measure_settles t x few =
       let c = match_at b j in
       let v = value b c in
-      let x = amount_due b c w q m s f a in
       let y = first_part x in
-      let few : x ≤ 22_000_000_000_000 = due_most b c w q m s f a r.core.terms.heat_table row.few row.price_high r.core.terms.tonnes_few in
       let part : y ≤ x = percent_down_most 80 x (omega arith) in
       record {
-        number = j;
         there = p;
         held = x - y;
         stage = Stage.Held;
@@ -326,9 +341,31 @@ module _ (b : Book) (r : SoundTables b) (j : ℕ) (p : j < b.match_count) where
         all_frozen = λ e. impossible (cc);
       }
 
+  vessel_row : (d x : ℕ) → leaves_short b (match_at b j) d ≡ true → MayLoad b (match_at b j) d → 1_000 * x ≤ 1_090_909 * (d + 500_000) + 500
+      → SoundMatch b.account_count b.day b.tonnes b.board (with_vessel (match_at b j) d x)
+  unfolding leaves_short weight_due
+  vessel_row d x e g h =
+      let c = match_at b j in
+      let short : c.loaded + d < c.units * b.tonnes * 1_000 = ltb-true _ _ e in
+      let seven : c.vessels ≤ 6 = by_eq c.vessels 7 (λ q. impossible (cc (g.eighth q, e))) (λ q. omega (arith, row.vessels_few)) in
+      search arith
+
+  -- "The match stays prepaid until the dues add up to D; then B, the sum, is paid as before."
+  pub measure_loads : (match_at b j).stage ≡ Stage.Prepaid → (d w q m s f a : ℕ) → MayLoad b (match_at b j) d
+      → Loads b (vessel_entries b (match_at b j) d (vessel_amount b (match_at b j) d w q m s f a)) (loaded b j (match_at b j) d (vessel_amount b (match_at b j) d w q m s f a))
+  unfolding loaded vessel_entries leaves_short weight_due
+  measure_loads t d w q m s f a g =
+      let c = match_at b j in
+      let x = vessel_amount b c d w q m s f a in
+      let whole = weight_due_most b c row.few r.core.terms.tonnes_few in
+      let near = vessel_most b c d w q m s f a r.core.terms.heat_table row.price_high in
+      loads_if (leaves_short b c d)
+      (λ e. Loads.records j d x p (vessel_row d x e g near) (freed_table (with_vessel c d x) (other_none b j t refl r)))
+      (λ e. Loads.settles (measure_settles t (c.counted + x) (omega (arith, whole, near, g.within, row.counted_few, row.vessels_few))))
+
   -- "buyer gets V back; party or parties at fault pay R% of V as above; ended."
   returned_settles : (match_at b j).stage ≡ Stage.Prepaid → {x y : Option ℕ} → Few x → Few y
-      → Settlement b (plus (match_at b j).buyer (value b (match_at b j)) ∷ penalty_entries b (match_at b j) x y) (set_stage (punish (pay b (match_at b j).buyer (value b (match_at b j))) (match_at b j) x y) j 0 Stage.Ended)
+      → Settlement b j (plus (match_at b j).buyer (value b (match_at b j)) ∷ penalty_entries b (match_at b j) x y) (set_stage (punish (pay b (match_at b j).buyer (value b (match_at b j))) (match_at b j) x y) j 0 Stage.Ended)
   unfolding all_entries weight pay value
   returned_settles s {x} {y} f g =
       let m = match_at b j in
@@ -337,7 +374,6 @@ module _ (b : Book) (r : SoundTables b) (j : ℕ) (p : j < b.match_count) where
       let d : Fined c v (penalty_entries b m x y) (punish c m x y) = fined b c.accounts m row.buyer_there row.seller_there (simp length-set all_there) f g in
       let e = set_stage (punish c m x y) j 0 Stage.Ended in
       record {
-        number = j;
         there = p;
         held = 0;
         stage = Stage.Ended;
@@ -356,14 +392,14 @@ module _ (b : Book) (r : SoundTables b) (j : ℕ) (p : j < b.match_count) where
         all_frozen = λ e. impossible (cc);
       }
 
-  pub terminate_settles : (match_at b j).stage ≡ Stage.Prepaid → (party : ℕ) → Settlement b (terminate_entries b (match_at b j) party) (terminated b j (match_at b j) party)
+  pub terminate_settles : (match_at b j).stage ≡ Stage.Prepaid → (party : ℕ) → Settlement b j (terminate_entries b (match_at b j) party) (terminated b j (match_at b j) party)
   unfolding terminated terminate_entries
   terminate_settles s party =
       let h = percent r.core.terms.rate_few in
       returned_settles s (few_if (not (eqb party 1)) h faultless) (few_if (not (eqb party 0)) h faultless)
 
   -- "ends the match on a fault": "Then the match is ended and its receipts are free again."
-  ended_settles : (match_at b j).stage ≡ Stage.Paired → {x y : Option ℕ} → Few x → Few y → Settlement b (penalty_entries b (match_at b j) x y) (fault_ended b j (match_at b j) x y)
+  ended_settles : (match_at b j).stage ≡ Stage.Paired → {x y : Option ℕ} → Few x → Few y → Settlement b j (penalty_entries b (match_at b j) x y) (fault_ended b j (match_at b j) x y)
   unfolding fault_ended free_again release_turn
   ended_settles s {x} {y} f g =
       let m = match_at b j in
@@ -373,7 +409,6 @@ module _ (b : Book) (r : SoundTables b) (j : ℕ) (p : j < b.match_count) where
       let t = subst (λ (q : Book). Freed b.account_count b.match_count b.matches b.board b.receipt_count j b.receipt_count (iter q.receipt_count 0 (release_turn j) q.receipts)) (sym d.same)
       (free_all new j (λ z o. o) (λ z. refl) r.core.receipts) in
       record {
-        number = j;
         there = p;
         held = 0;
         stage = Stage.Ended;
@@ -397,13 +432,12 @@ module _ (b : Book) (r : SoundTables b) (j : ℕ) (p : j < b.match_count) where
   into_held_settles : (match_at b j).stage ≡ Stage.Paired → (s : Stage) → 0 < rank s → Holding b.tonnes b.board (match_at b j) (value b (match_at b j)) s
       → ReceiptTable b.account_count b.match_count (set b.matches j (with_held (match_at b j) (value b (match_at b j)) s)) b.board b.receipt_count b.receipts
       → (is_paid_for s ≡ true → (match_at b j).units ≤ frozen_of b.receipt_count b.receipts j)
-      → Settlement b (minus (match_at b j).buyer (value b (match_at b j)) ∷ []) (into_held b j (match_at b j) (value b (match_at b j)) s)
+      → Settlement b j (minus (match_at b j).buyer (value b (match_at b j)) ∷ []) (into_held b j (match_at b j) (value b (match_at b j)) s)
   unfolding all_entries weight into_held charge
   into_held_settles q s h g t a =
       let m = match_at b j in
       let v = value b m in
       record {
-        number = j;
         there = p;
         held = v;
         stage = s;
@@ -424,10 +458,10 @@ module _ (b : Book) (r : SoundTables b) (j : ℕ) (p : j < b.match_count) where
 
   -- "In a receipts book it gives the new stage 5, funded", or "stage 6, awaiting auction". "A board match goes from Pay to prepaid."
   no_fault_settles : (match_at b j).stage ≡ Stage.Paired → seller_fault b j ≡ None → (t a : Bool) → b.board ≡ t
-      → Settlement b (minus (match_at b j).buyer (value b (match_at b j)) ∷ []) (into_held b j (match_at b j) (value b (match_at b j)) (pick t Stage.Prepaid (pick a Stage.Awaiting Stage.Funded)))
-  unfolding value
+      → Settlement b j (minus (match_at b j).buyer (value b (match_at b j)) ∷ []) (into_held b j (match_at b j) (value b (match_at b j)) (pick t Stage.Prepaid (pick a Stage.Awaiting Stage.Funded)))
+  unfolding value weight_due
   no_fault_settles s f true a e =
-      into_held_settles s Stage.Prepaid (omega arith) (refl, e, faultless_heat b j f e)
+      into_held_settles s Stage.Prepaid (omega arith) (refl, e, faultless_heat b j f e, weight_some)
       (freed_table _ (record { table = r.core.receipts; done = λ i k. absurd (omega (arith, r.core.receipts.none e)) }))
       (λ z. impossible (cc))
   no_fault_settles s f false true e =
@@ -435,21 +469,21 @@ module _ (b : Book) (r : SoundTables b) (j : ℕ) (p : j < b.match_count) where
   no_fault_settles s f false false e =
       into_held_settles s Stage.Funded (omega arith) (refl, e) (receipts_restaged j _ refl refl refl r.core.receipts) (λ z. faultless_frozen b j f e)
 
-  paid_settles : (match_at b j).stage ≡ Stage.Paired → {x y : Option ℕ} → Few x → Few y → seller_fault b j ≡ y → Settlement b (pay_entries b (match_at b j) x y) (paid b j (match_at b j) x y)
+  paid_settles : (match_at b j).stage ≡ Stage.Paired → {x y : Option ℕ} → Few x → Few y → seller_fault b j ≡ y → Settlement b j (pay_entries b (match_at b j) x y) (paid b j (match_at b j) x y)
   unfolding paid paid_stage pay_entries
   paid_settles s faultless faultless e = no_fault_settles s e b.board (to_auction b j (match_at b j)) refl
   paid_settles s (percent f) faultless e = ended_settles s (percent f) faultless
   paid_settles s faultless (percent g) e = ended_settles s faultless (percent g)
   paid_settles s (percent f) (percent g) e = ended_settles s (percent f) (percent g)
 
-  pub pay_settles : (match_at b j).stage ≡ Stage.Paired → Settlement b (pay_entries b (match_at b j) (buyer_fault b j) (seller_fault b j)) (paid b j (match_at b j) (buyer_fault b j) (seller_fault b j))
+  pub pay_settles : (match_at b j).stage ≡ Stage.Paired → Settlement b j (pay_entries b (match_at b j) (buyer_fault b j) (seller_fault b j)) (paid b j (match_at b j) (buyer_fault b j) (seller_fault b j))
   pay_settles s = paid_settles s (buyer_few b j r.core.terms.rate_few) (seller_few b j r.core.terms.rate_few) refl
 
   -- "passes the receipts and pays the seller's 80%": of V that is held, after entries that come to nothing
   handed_settles : rank (match_at b j).stage < 2 → (match_at b j).held ≡ value b (match_at b j) → (l : List Account) (es : List Entry) (k : ℕ) → k < b.account_count
       → Posted b.accounts (pay (with_accounts b l b.account_count) (match_at b j).seller (first_part (value b (match_at b j)))).accounts es
       → Within b.account_count es → weight es ≤ most → all_entries es ≡ pos (first_part (value b (match_at b j)))
-      → Settlement b es (handed (with_accounts b l b.account_count) j (match_at b j) (value b (match_at b j)) k)
+      → Settlement b j es (handed (with_accounts b l b.account_count) j (match_at b j) (value b (match_at b j)) k)
   unfolding handed pass_receipts pass_turn pay
   handed_settles h g l es k i d w o q =
       let m = match_at b j in
@@ -458,7 +492,6 @@ module _ (b : Book) (r : SoundTables b) (j : ℕ) (p : j < b.match_count) where
       let part : y ≤ v = percent_down_most 80 v (omega arith) in
       let new : Receipt → Receipt = λ z. record { owner = k; bonded = z.bonded; state = ReceiptState.Free } in
       record {
-        number = j;
         there = p;
         held = v - y;
         stage = Stage.Held;
@@ -480,7 +513,7 @@ module _ (b : Book) (r : SoundTables b) (j : ℕ) (p : j < b.match_count) where
   part_few : first_part (value b (match_at b j)) ≤ 20_000_000_000_000
   part_few = omega (arith, value_few, percent_down_most 80 (value b (match_at b j)) (omega arith))
 
-  pub hand_over_settles : (match_at b j).stage ≡ Stage.Funded → Settlement b (hand_over_entries b (match_at b j)) (handed b j (match_at b j) (value b (match_at b j)) (match_at b j).buyer)
+  pub hand_over_settles : (match_at b j).stage ≡ Stage.Funded → Settlement b j (hand_over_entries b (match_at b j)) (handed b j (match_at b j) (value b (match_at b j)) (match_at b j).buyer)
   unfolding all_entries weight hand_over_entries pay value
   hand_over_settles s =
       let m = match_at b j in
@@ -490,7 +523,7 @@ module _ (b : Book) (r : SoundTables b) (j : ℕ) (p : j < b.match_count) where
 
   -- "Above zero, the winner pays the proceeds to the buyer and takes the receipts, the seller gets 80% and the rest is held as before."
   sold_settles : (match_at b j).stage ≡ Stage.Awaiting → (k x : ℕ) → k < b.account_count → x ≤ 1_000_000_000_000_000
-      → Settlement b (minus k x ∷ plus (match_at b j).buyer x ∷ plus (match_at b j).seller (first_part (value b (match_at b j))) ∷ []) (sold b j (match_at b j) k x)
+      → Settlement b j (minus k x ∷ plus (match_at b j).buyer x ∷ plus (match_at b j).seller (first_part (value b (match_at b j))) ∷ []) (sold b j (match_at b j) k x)
   unfolding all_entries weight sold pay charge value
   sold_settles s k x i h =
       let m = match_at b j in
@@ -501,7 +534,7 @@ module _ (b : Book) (r : SoundTables b) (j : ℕ) (p : j < b.match_count) where
 
   -- "the buyer gets V back, pays the seller 20% of V, down, the match is ended and the receipts are freed"
   unsold_settles : (match_at b j).stage ≡ Stage.Awaiting
-      → Settlement b (plus (match_at b j).buyer (value b (match_at b j)) ∷ minus (match_at b j).buyer (no_bid_part (value b (match_at b j))) ∷ plus (match_at b j).seller (no_bid_part (value b (match_at b j))) ∷ []) (unsold b j (match_at b j) (value b (match_at b j)))
+      → Settlement b j (plus (match_at b j).buyer (value b (match_at b j)) ∷ minus (match_at b j).buyer (no_bid_part (value b (match_at b j))) ∷ plus (match_at b j).seller (no_bid_part (value b (match_at b j))) ∷ []) (unsold b j (match_at b j) (value b (match_at b j)))
   unfolding all_entries weight unsold free_again release_turn pay charge value
   unsold_settles s =
       let m = match_at b j in
@@ -511,7 +544,6 @@ module _ (b : Book) (r : SoundTables b) (j : ℕ) (p : j < b.match_count) where
       let worth : m.held ≡ v = row.paid_for_value (ap is_paid_for s) in
       let new : Receipt → Receipt = λ z. with_state z ReceiptState.Free in
       record {
-        number = j;
         there = p;
         held = 0;
         stage = Stage.Ended;
@@ -530,16 +562,20 @@ module _ (b : Book) (r : SoundTables b) (j : ℕ) (p : j < b.match_count) where
         all_frozen = λ z. impossible (cc);
       }
 
-  pub auction_settles : (match_at b j).stage ≡ Stage.Awaiting → (k x : ℕ) → k < b.account_count → x ≤ 1_000_000_000_000_000 → Settlement b (auction_entries b (match_at b j) k x) (auctioned b j (match_at b j) k x)
+  pub auction_settles : (match_at b j).stage ≡ Stage.Awaiting → (k x : ℕ) → k < b.account_count → x ≤ 1_000_000_000_000_000 → Settlement b j (auction_entries b (match_at b j) k x) (auctioned b j (match_at b j) k x)
   unfolding auction_entries auctioned
   auction_settles s k x i h = settlement_if (eqb x 0) (unsold_settles s) (sold_settles s k x i h)
 
 -- ---- sums over the matches
 
+-- of the matches, one has a vessel more, of which f does not speak
+pub vessel_sum : (b : Book) (f : Match → ℕ) (j d x : ℕ) → j < b.match_count → SoundTables b → f (with_vessel (match_at b j) d x) ≡ f (match_at b j)
+    → sum b.match_count 0 (λ i. f (match_at (put_match b j (with_vessel (match_at b j) d x)) i)) ≡ sum b.match_count 0 (λ i. f (match_at b i))
+vessel_sum b f j d x p r e = omega (arith, e, sum_set f b.matches b.match_count j (with_vessel (match_at b j) d x) blank_match p (omega (arith, r.core.matches.size, r.core.matches.few)))
+
 -- of the matches, one is put
-pub settlement_sum : {b e : Book} {es : List Entry} (f : Match → ℕ) (s : Settlement b es e) → SoundTables b
-    → sum e.match_count 0 (λ i. f (match_at e i)) + f (match_at b s.number) ≡ sum b.match_count 0 (λ i. f (match_at b i)) + f (with_held (match_at b s.number) s.held s.stage)
-settlement_sum {b} f s r =
-    let j = s.number in
+pub settlement_sum : {b e : Book} {j : ℕ} {es : List Entry} (f : Match → ℕ) (s : Settlement b j es e) → SoundTables b
+    → sum e.match_count 0 (λ i. f (match_at e i)) + f (match_at b j) ≡ sum b.match_count 0 (λ i. f (match_at b i)) + f (with_held (match_at b j) s.held s.stage)
+settlement_sum {b} {j = j} f s r =
     ap (λ (x : Book). sum x.match_count 0 (λ i. f (match_at x i)) + f (match_at b j)) s.same
     ∙ sum_set f b.matches b.match_count j (with_held (match_at b j) s.held s.stage) blank_match s.there (omega (arith, s.there, r.core.matches.size, r.core.matches.few))

@@ -66,6 +66,12 @@ pub record SoundMatch (accounts day tonnes : ℕ) (board : Bool) (m : Match) : T
   pub paid_for_value : is_paid_for m.stage ≡ true → m.held ≡ m.units * m.price * tonnes
   pub paid_for_board : is_paid_for m.stage ≡ true → board ≡ false
   pub held_few : m.held ≤ 22_000_000_000_000
+  -- the vessels recorded: seven at most, whose dues leave a prepaid match short of D; and what their amounts come to, in thousandths
+  pub vessels_few : m.vessels ≤ 7
+  pub loaded_few : m.loaded ≤ m.units * tonnes * 1_000
+  pub loaded_short : m.stage ≡ Stage.Prepaid → m.loaded < m.units * tonnes * 1_000
+  pub loaded_none : m.vessels ≡ 0 → m.loaded ≡ 0
+  pub counted_few : 1_000 * m.counted ≤ 1_090_909 * (m.loaded + 500_000 * m.vessels) + 500 * m.vessels
 
 -- a receipt of a book with so many accounts and so many of these matches: where it is frozen, then for a match that is paired, funded or awaits auction, whose seller's it is
 pub record SoundReceipt (accounts count : ℕ) (matches : List Match) (r : Receipt) : Type 0 where

@@ -5,7 +5,7 @@ use Rattle.book.specs.Calls.{step}
 use Rattle.book.specs.Lists.{Reached, opened, called, after}
 use Rattle.book.proofs.laws.Answered.{Answered, answered}
 use Rattle.book.proofs.laws.Sound.{SoundTables}
-use Rattle.book.proofs.laws.Settling.{settlement_tables, pay_settles, measure_settles, invoice_settles, terminate_settles, hand_over_settles, auction_settles}
+use Rattle.book.proofs.laws.Settling.{settlement_tables, loads_tables, pay_settles, measure_loads, invoice_settles, terminate_settles, hand_over_settles, auction_settles}
 use Rattle.book.proofs.laws.Calls.{opening_tables, join_tables, deposit_tables, withdraw_tables, trade_tables, lodge_tables, strike_tables, declare_tables, offer_tables, retract_tables, day_tables}
 use Rattle.book.proofs.laws.Taking.{take_tables, close_tables}
 
@@ -24,7 +24,7 @@ sound_tables (Answered.takes g) r = take_tables r g
 sound_tables (Answered.days g) r = day_tables r g
 sound_tables (Answered.closes g) r = close_tables r g
 sound_tables {b} (Answered.pays {j = j} g) r = settlement_tables (pay_settles b r j g.there g.paired) r
-sound_tables {b} (Answered.measures {j = j} {w = w} {q = q} {m = m} {s = s} {f = f} {a = a} g) r = settlement_tables (measure_settles b r j g.there g.prepaid w q m s f a) r
+sound_tables {b} (Answered.measures {j = j} {w = w} {q = q} {m = m} {s = s} {f = f} {a = a} {d = d} g) r = loads_tables (measure_loads b r j g.there g.prepaid d w q m s f a g.due) r
 sound_tables {b} (Answered.invoices {j = j} g) r = settlement_tables (invoice_settles b r j g.there g.in_hold) r
 sound_tables {b} (Answered.terminates {j = j} {party = party} g) r = settlement_tables (terminate_settles b r j g.there g.prepaid party) r
 sound_tables {b} (Answered.hands_over {j = j} g) r = settlement_tables (hand_over_settles b r j g.there g.funded) r

@@ -21,7 +21,7 @@ use Rattle.book.proofs.laws.Counting.{by_pick, sum_same, sum_set, sum_add, at_se
 use Rattle.book.proofs.laws.Answered.{MayTrade, Answered, answered, of_opening}
 use Rattle.book.proofs.laws.Sound.{SoundAccount, Core, SoundTables}
 use Rattle.book.proofs.laws.Posting.{Posted}
-use Rattle.book.proofs.laws.Settling.{Settlement, settlement_sum, pay_settles, measure_settles, invoice_settles, terminate_settles, hand_over_settles, auction_settles}
+use Rattle.book.proofs.laws.Settling.{Settlement, Loads, vessel_sum, settlement_sum, pay_settles, measure_loads, invoice_settles, terminate_settles, hand_over_settles, auction_settles}
 use Rattle.book.proofs.laws.Calls.{cell, opening_tables, deposit_posted, withdraw_posted}
 use Rattle.book.proofs.laws.Pairing.{Pairable, pair_core, off_units, paired_sum}
 use Rattle.book.proofs.laws.Closing.{passes_keep, lapsed}
@@ -67,9 +67,14 @@ even_put b k a s u = even_placed refl (λ j. at_set (Placed (account_at b j)) b.
 even_posted : {b e : Book} {es : List Entry} → e.account_count ≡ b.account_count → Posted b.accounts e.accounts es → units_in_matches e ≡ units_in_matches b → Even b e 0
 even_posted c p m = even_placed c (λ k. record { side = ap (λ (a : Account). a.side) (p.rows k); units = ap (λ (a : Account). a.units) (p.rows k) }) m
 
-even_settled : {b e : Book} {es : List Entry} → SoundTables b → Settlement b es e → Even b e 0
+even_settled : {b e : Book} {j : ℕ} {es : List Entry} → SoundTables b → Settlement b j es e → Even b e 0
 unfolding units_in_matches
 even_settled r s = even_posted (ap (λ (x : Book). x.account_count) s.same) s.posted (omega (arith, settlement_sum (λ (m : Match). m.units) s r))
+
+even_loaded : {b e : Book} {es : List Entry} → SoundTables b → Loads b es e → Even b e 0
+unfolding units_in_matches
+even_loaded {b} r (Loads.records j d x p s t) = even_placed refl (λ k. record { side = refl; units = refl }) (vessel_sum b (λ m. m.units) j d x p r refl)
+even_loaded r (Loads.settles s) = even_settled r s
 
 -- ---- a pairing
 
@@ -165,7 +170,7 @@ even {b} (Answered.takes {buyer = m} {seller = n} g) r = even_then (even_pair b 
 even {b} (Answered.days {p = p} g) r = even_frame b b.receipts b.receipt_count p (b.day + 1) b.«open»
 even {b} (Answered.closes g) r = even_close b r g.is_open
 even {b} (Answered.pays {j = j} g) r = even_settled r (pay_settles b r j g.there g.paired)
-even {b} (Answered.measures {j = j} {w = w} {q = q} {m = m} {s = s} {f = f} {a = a} g) r = even_settled r (measure_settles b r j g.there g.prepaid w q m s f a)
+even {b} (Answered.measures {j = j} {w = w} {q = q} {m = m} {s = s} {f = f} {a = a} {d = d} g) r = even_loaded r (measure_loads b r j g.there g.prepaid d w q m s f a g.due)
 even {b} (Answered.invoices {j = j} g) r = even_settled r (invoice_settles b r j g.there g.in_hold)
 even {b} (Answered.terminates {j = j} {party = party} g) r = even_settled r (terminate_settles b r j g.there g.prepaid party)
 even {b} (Answered.hands_over {j = j} g) r = even_settled r (hand_over_settles b r j g.there g.funded)

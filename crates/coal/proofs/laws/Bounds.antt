@@ -97,6 +97,11 @@ pub amount_most : (x w : ℕ) → x ≤ most_price → w ≤ most_weight → amo
 unfolding half_up amount
 amount_most x w h k = omega (arith, mul-le-mul h k)
 
+-- an amount is a thousandth of price × weight, and half a fen more at most
+pub amount_near : (x w : ℕ) → 1_000 * amount x w ≤ x * w + 500
+unfolding half_up amount
+amount_near x w = omega arith
+
 -- the same of a result that a function promises, for callers
 pub weighed : (d w m : ℕ) (r : Weighed) → r ≡ coal_weight d w m → d ≤ most_due → r.settled ≤ most_weight
 weighed d w m r e k = rw e (omega (arith, coal_weight_most d w m))
