@@ -1,15 +1,16 @@
 -- Several vessels to a match, the statements, in the words of document 02, Job 11. Assumes nothing.
-use Rattle.std.specs.Prelude.{◌≡◌, true, false, not, List, [], ◌∷◌, ℕ, ◌+◌, ◌-◌, ◌*◌, ◌≤◌, ◌<◌, ltb, leb, eqb}
+use Rattle.std.specs.Prelude.{◌≡◌, true, false, not, List, [], ◌∷◌, ◌++◌, ℕ, ◌+◌, ◌-◌, ◌*◌, ◌≤◌, ◌<◌, ltb, leb, eqb, length}
 use Rattle.heats.specs.HeatTables.{IsHeatTable}
 use Rattle.coal.specs.Choice.{pick}
 use Rattle.coal.specs.declared.Weighed.{Weighed}
 use Rattle.coal.specs.Coal.{coal_price, coal_weight, amount}
-use Rattle.book.specs.Types.{Sample, Stage, Match, Book, Outcome, Call}
+use Rattle.book.specs.Types.{Sample, Stage, Match, Book, Answer, Outcome, Call}
 use Rattle.book.specs.Rows.{heat_value, is_prepaid}
 use Rattle.book.specs.Tables.{match_at}
 use Rattle.book.specs.Answers.{refuse_if, accept, is_accepted}
 use Rattle.book.specs.Opening.{opening}
 use Rattle.book.specs.Settlement.{value, first_part, weight_due, vessel_amount, measured, measure}
+use Rattle.book.specs.Entries.{Entry, measure_entries, entries}
 use Rattle.book.specs.Calls.{step}
 use Rattle.book.specs.Lists.{after, accepts, Reached}
 
@@ -41,32 +42,74 @@ measure_whole b j w q m s f a =
 abbrev pub OneVessel : Type 0
 OneVessel = (b : Book) → Reached b → (j : ℕ) → (match_at b j).vessels ≡ 0 → (w q m s f a : ℕ) → measure b j w q m s f a (weight_due b (match_at b j)) ≡ measure_whole b j w q m s f a
 
+-- ---- up to eight vessels
+
+-- a vessel, as a Measure names it
+pub record Vessel : Type 0 where
+  pub sample : Sample
+  pub due : ℕ
+
+-- the Measures of match j, one vessel after the other
+abbrev pub measures : ℕ → List Vessel → List Call
+measures j [] = []
+measures j (v ∷ vs) = Call.Measure j v.sample v.due ∷ measures j vs
+
+-- "the dues", added up
+abbrev pub dues : List Vessel → ℕ
+dues [] = 0
+dues (v ∷ vs) = v.due + dues vs
+
+-- "W kg 0..40,000,000,000"; "these five 0..10,000"; and a due weight that is not zero
+pub record InRange (v : Vessel) : Type 0 where
+  pub weight : v.sample.weight ≤ 40_000_000_000
+  pub heat : v.sample.quality.heat ≤ 10_000
+  pub moisture : v.sample.moisture ≤ 10_000
+  pub sulphur : v.sample.quality.sulphur ≤ 10_000
+  pub volatiles : v.sample.quality.volatiles ≤ 10_000
+  pub ash : v.sample.quality.ash ≤ 10_000
+  pub some_due : 0 < v.due
+
+abbrev pub EachInRange : List Vessel → Type 0
+EachInRange [] = Unit {0}
+EachInRange (v ∷ vs) = InRange v × EachInRange vs
+
+-- each is accepted, and carries its own kilograms over: "Each vessel's .. kilograms over (Job 2) .. follow the rules as they now stand with its due weight for D"
+abbrev pub AllAccepted : Book → ℕ → List Vessel → Type 0
+AllAccepted b j [] = Unit {0}
+AllAccepted b j (v ∷ vs) = ((step b (Call.Measure j v.sample v.due)).answer ≡ Answer.Accepted (v.sample.weight - (v.due + 500_000))) × AllAccepted (step b (Call.Measure j v.sample v.due)).book j vs
+
+-- "A board match may be loaded on up to eight vessels.": on any, one to eight, whose dues "add up to D"; the last one settles the match
+abbrev pub UpToEight : Type 0
+UpToEight = (b : Book) → Reached b → (j : ℕ) → j < b.match_count → (match_at b j).stage ≡ Stage.Prepaid → (match_at b j).vessels ≡ 0
+    → (vs : List Vessel) → EachInRange vs → length vs ≤ 8 → dues vs ≡ weight_due b (match_at b j)
+    → AllAccepted b j vs × ((match_at (after b (measures j vs)) j).stage ≡ Stage.Held)
+
 -- ---- the vessels of a match over a list of calls, added up from its accepted Measures and not read from the book
 
--- f of the book just before a Measure of match j, of its measured values and its due weight; 0 of any other call
-unfoldable pub of_measure : (Book → Sample → ℕ → ℕ) → ℕ → Book → Call → ℕ
-of_measure f j b (Call.Join residence fitness) = 0
-of_measure f j b (Call.Deposit k x) = 0
-of_measure f j b (Call.Withdraw k x) = 0
-of_measure f j b (Call.Trade buyer seller u) = 0
-of_measure f j b (Call.Lodge owner class) = 0
-of_measure f j b (Call.Strike owner i) = 0
-of_measure f j b (Call.Declare k h) = 0
-of_measure f j b (Call.Offer seller u) = 0
-of_measure f j b (Call.Retract seller) = 0
-of_measure f j b (Call.Take buyer seller) = 0
-of_measure f j b (Call.Day p) = 0
-of_measure f j b Call.Close = 0
-of_measure f j b (Call.Pay i) = 0
-of_measure f j b (Call.Measure i x d) = pick (eqb i j) (f b x d) 0
-of_measure f j b (Call.Invoice i) = 0
-of_measure f j b (Call.Terminate i party) = 0
-of_measure f j b (Call.HandOver i) = 0
-of_measure f j b (Call.Auction i winner x) = 0
+-- f of the book just before a Measure of match j, of its measured values and its due weight; nothing of any other call
+unfoldable pub of_measure : {A : Type 0} → A → (Book → Sample → ℕ → A) → ℕ → Book → Call → A
+of_measure nothing f j b (Call.Join residence fitness) = nothing
+of_measure nothing f j b (Call.Deposit k x) = nothing
+of_measure nothing f j b (Call.Withdraw k x) = nothing
+of_measure nothing f j b (Call.Trade buyer seller u) = nothing
+of_measure nothing f j b (Call.Lodge owner class) = nothing
+of_measure nothing f j b (Call.Strike owner i) = nothing
+of_measure nothing f j b (Call.Declare k h) = nothing
+of_measure nothing f j b (Call.Offer seller u) = nothing
+of_measure nothing f j b (Call.Retract seller) = nothing
+of_measure nothing f j b (Call.Take buyer seller) = nothing
+of_measure nothing f j b (Call.Day p) = nothing
+of_measure nothing f j b Call.Close = nothing
+of_measure nothing f j b (Call.Pay i) = nothing
+of_measure nothing f j b (Call.Measure i x d) = pick (eqb i j) (f b x d) nothing
+of_measure nothing f j b (Call.Invoice i) = nothing
+of_measure nothing f j b (Call.Terminate i party) = nothing
+of_measure nothing f j b (Call.HandOver i) = nothing
+of_measure nothing f j b (Call.Auction i winner x) = nothing
 
 unfoldable pub over_measures : (Book → Sample → ℕ → ℕ) → ℕ → Book → List Call → ℕ
 over_measures f j b [] = 0
-over_measures f j b (c ∷ cs) = pick (accepts b c) (of_measure f j b c) 0 + over_measures f j (step b c).book cs
+over_measures f j b (c ∷ cs) = pick (accepts b c) (of_measure 0 f j b c) 0 + over_measures f j (step b c).book cs
 
 -- how many vessels of match j are measured
 abbrev pub vessels_measured : ℕ → Book → List Call → ℕ
@@ -84,10 +127,15 @@ amount_of j b x d = vessel_amount b (match_at b j) d x.weight x.quality.heat x.m
 abbrev pub amounts_measured : ℕ → Book → List Call → ℕ
 amounts_measured j b cs = over_measures (amount_of j) j b cs
 
+-- the entries of these Measures, one after the other
+unfoldable pub entries_measured : ℕ → Book → List Call → List Entry
+entries_measured j b [] = []
+entries_measured j b (c ∷ cs) = pick (accepts b c) (of_measure [] (λ e x d. entries e (Call.Measure j x d)) j b c) [] ++ entries_measured j (step b c).book cs
+
 -- what holds of match j after a list of calls from a fresh book b, with e the book after the list
 pub record Vessels (b : Book) (cs : List Call) (e : Book) (j : ℕ) : Type 0 where
   -- "A board match may be loaded on up to eight vessels."
-  pub up_to_eight : vessels_measured j b cs ≤ 8
+  pub at_most_eight : vessels_measured j b cs ≤ 8
   -- "The match stays prepaid until the dues add up to D": a prepaid one is short of it, and V is still held
   pub short : (match_at e j).stage ≡ Stage.Prepaid → dues_measured j b cs < weight_due e (match_at e j)
   pub value_held : (match_at e j).stage ≡ Stage.Prepaid → (match_at e j).held ≡ value e (match_at e j)
@@ -95,9 +143,12 @@ pub record Vessels (b : Book) (cs : List Call) (e : Book) (j : ℕ) : Type 0 whe
   pub recorded : (match_at e j).stage ≡ Stage.Prepaid → (match_at e j).vessels ≡ vessels_measured j b cs
   pub loaded : (match_at e j).stage ≡ Stage.Prepaid → (match_at e j).loaded ≡ dues_measured j b cs
   pub counted : (match_at e j).stage ≡ Stage.Prepaid → (match_at e j).counted ≡ amounts_measured j b cs
-  -- "until the dues add up to D; then B, the sum, is paid as before": "seller gets 80% of B, down; the rest is held"
+  -- and no money has moved for them
+  pub none_paid : (match_at e j).stage ≡ Stage.Prepaid → entries_measured j b cs ≡ []
+  -- "until the dues add up to D; then B, the sum, is paid as before": "buyer gets V back and pays B; seller gets 80% of B, down; the rest is held"
   pub added_up : (match_at e j).stage ≡ Stage.Held → 0 < vessels_measured j b cs → dues_measured j b cs ≡ weight_due e (match_at e j)
-  pub sum_paid : (match_at e j).stage ≡ Stage.Held → 0 < vessels_measured j b cs → (match_at e j).held ≡ amounts_measured j b cs - first_part (amounts_measured j b cs)
+  pub sum_paid : (match_at e j).stage ≡ Stage.Held → 0 < vessels_measured j b cs → entries_measured j b cs ≡ measure_entries e (match_at e j) (amounts_measured j b cs)
+  pub rest_held : (match_at e j).stage ≡ Stage.Held → 0 < vessels_measured j b cs → (match_at e j).held ≡ amounts_measured j b cs - first_part (amounts_measured j b cs)
   -- "Terminate after a first vessel drops the vessels recorded.": no match has any but a prepaid one
   pub dropped : is_prepaid (match_at e j).stage ≡ false → ((match_at e j).vessels ≡ 0) × ((match_at e j).loaded ≡ 0) × ((match_at e j).counted ≡ 0)
 

@@ -46,7 +46,7 @@ fn bad_due(book: &Book, m: &ValuedMatch, due_weight: u64) -> bool
 }
 
 // "Each vessel's weight, kilograms over (Job 2) and amount follow the rules as they now stand with its due weight for D": the amount of a vessel and beside it its kilograms over, by the book's heat table, of P the match's price, H its declared heat, the settled weight, and the measured quality.
-#[tactic(auto, using(coal::proofs::laws::Bounds::coal_weight_most), unfolding(book::specs::Settlement::vessel_amount))]
+#[tactic(auto, using(coal::proofs::laws::Bounds::coal_weight_most, crate::proofs::Vessels::small), unfolding(book::specs::Settlement::vessel_amount))]
 fn vessel_amount(book: &Book, m: &ValuedMatch, due_weight: u64, sample: &Sample) -> (Amount, u64)
     requires due { Due book.now m.now }
     requires weight_bound { due_weight ≤ most_due }
