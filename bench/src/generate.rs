@@ -303,6 +303,50 @@ pub fn vessels(seed: u64, calls: usize) -> Vec<u8> {
     written.text
 }
 
+/// A session of clearing staff from a seed, of at most `calls` calls: up to 16 buyers and as many sellers, some unfit or short of cash, receipts or a declared heat, whose matches are then paid and handed over in any order.
+pub fn clerks(seed: u64, calls: usize) -> Vec<u8> {
+    let mut r = Random::new(seed);
+    let board = r.chance(30);
+    let (tonnes, price) = (1 + r.below(20), 1 + r.below(1_000));
+    let mut written = Written::open(board as u64, tonnes, r.below(101), price);
+    let sides = 2 + r.below((calls as u64 / 15).clamp(1, 15));
+    let mut first: Vec<Vec<u64>> = (0..2 * sides).map(|_| vec![1, r.below(2), r.chance(85) as u64]).collect();
+    for _ in 0..sides + r.below(2 * sides) {
+        let (buyer, seller, units) = (2 * r.below(sides), 2 * r.below(sides) + 1, 1 + r.below(3));
+        let value = units * price * tonnes;
+        first.extend([vec![4, buyer, seller, units], vec![2, buyer, r.pick(&[1, value - 1, value, value, 2 * value])]]);
+        if board {
+            first.extend(r.chance(80).then(|| vec![7, seller, 5_000]));
+        } else {
+            let lodged = units - r.chance(20) as u64;
+            first.extend((0..lodged).map(|_| vec![5, seller, r.below(2)]));
+        }
+        first.extend([vec![8, seller, units], vec![10, buyer, seller]].into_iter().filter(|_| r.chance(80)));
+    }
+    first.extend([vec![12], vec![11, price], vec![11, price]].into_iter().filter(|_| r.chance(80)));
+    for c in first.iter().take(calls) {
+        written.write(c);
+    }
+    for _ in first.len()..calls {
+        let matches = &written.book.matches;
+        let open = |&j: &usize| matches!(matches[j].stage, Stage::Paired | Stage::Funded);
+        let open: Vec<usize> = (0..matches.len()).filter(open).collect();
+        if open.is_empty() {
+            break;
+        }
+        let place = open[r.below(open.len() as u64) as usize];
+        let c = match (r.below(100), matches[place].stage) {
+            (0..=7, _) => call(&mut r, &written.book, 2 * sides, 100),
+            (8..=11, _) => vec![11, price],
+            (12..=15, _) => vec![13 + 4 * r.below(2), r.below(matches.len() as u64 + 1)],
+            (16..=90, Stage::Funded) | (91..=99, Stage::Paired) => vec![17, place as u64],
+            _ => vec![13, place as u64],
+        };
+        written.write(&c);
+    }
+    written.text
+}
+
 /// A coal port's session in which a cargo of one tonne is measured at this heat, at this price: its 12 lines are accepted.
 pub fn measured(heat: u64, price: u64) -> Vec<u8> {
     format!("0 1 1 20 {price}\n1 0 1\n1 0 1\n2 0 1000000\n7 1 5800\n4 0 1 1\n8 1 1\n10 0 1\n11 1\n11 1\n13 0\n14 0 1000 {heat} 0 0 3500 1000 1000\n").into_bytes()

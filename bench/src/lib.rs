@@ -1,5 +1,6 @@
 //! The papers' rules in plain Rust, by reference, written from documents 01 and 02: the yardstick that the proved book is compared with.
 pub mod machine;
 pub mod generate;
+pub mod orders;
 pub mod proved;
 pub mod session;

@@ -28,13 +28,13 @@ pub enum Stage {
 }
 
 /// An opening day with its units (document 02, Job 5).
-#[derive(Clone, Copy, Default)]
+#[derive(Clone, Copy, Default, PartialEq)]
 pub struct Lot {
     pub day: u64,
     pub units: u64,
 }
 
-#[derive(Clone)]
+#[derive(Clone, PartialEq)]
 pub struct Account {
     pub overseas: bool,
     pub fit: bool,
@@ -84,7 +84,7 @@ impl Account {
     }
 }
 
-#[derive(Clone)]
+#[derive(Clone, PartialEq)]
 pub struct Receipt {
     pub owner: usize,
     pub bonded: bool,
@@ -92,13 +92,13 @@ pub struct Receipt {
 }
 
 /// A vessel of a match: its due kilograms and its amount (document 02, Job 11).
-#[derive(Clone)]
+#[derive(Clone, PartialEq)]
 pub struct Vessel {
     pub due: u64,
     pub amount: u128,
 }
 
-#[derive(Clone)]
+#[derive(Clone, PartialEq)]
 pub struct Match {
     pub buyer: usize,
     pub seller: usize,
@@ -112,7 +112,7 @@ pub struct Match {
     pub vessels: Vec<Vessel>,
 }
 
-#[derive(Clone)]
+#[derive(Clone, PartialEq)]
 pub struct Book {
     pub board: bool,
     pub tonnes: u64,
@@ -565,23 +565,28 @@ impl Book {
         }
     }
 
+    /// The percent of the buyer's fault and of the seller's.
+    pub fn faults(&self, j: usize) -> (Option<u64>, Option<u64>) {
+        let m = &self.matches[j];
+        let frozen = self.receipts.iter().filter(|r| r.state == State::Frozen(j)).count() as u64;
+        let lacking = if self.board { m.heat.is_none() } else { frozen < m.units };
+        let poor = self.accounts[m.buyer].cash < self.value(j) as i128;
+        let fault = |fit: bool, failed: bool| match (fit, failed) {
+            (false, _) => Some(10),
+            (true, true) => Some(self.rate),
+            (true, false) => None,
+        };
+        (fault(self.accounts[m.buyer].fit, poor), fault(self.accounts[m.seller].fit, lacking))
+    }
+
     /// Document 02, Job 6: faults are judged here, and V is held from here on.
     fn pay_match(&mut self, j: u64) -> Answer {
         let j = self.match_number(j)?;
         no(self.matches[j].stage != Stage::Paired, 22)?;
         no(self.day < self.matches[j].due, 23)?;
         let v = self.value(j);
-        let m = self.matches[j].clone();
-        let frozen = self.receipts.iter().filter(|r| r.state == State::Frozen(j)).count() as u64;
-        let lacking = if self.board { m.heat.is_none() } else { frozen < m.units };
-        let fault = |fit: bool, failed: bool, rate: u64| match (fit, failed) {
-            (false, _) => Some(10),
-            (true, true) => Some(rate),
-            (true, false) => None,
-        };
-        let seller_fault = fault(self.accounts[m.seller].fit, lacking, self.rate);
-        let poor = self.accounts[m.buyer].cash < v as i128;
-        let buyer_fault = fault(self.accounts[m.buyer].fit, poor, self.rate);
+        let buyer = self.matches[j].buyer;
+        let (buyer_fault, seller_fault) = self.faults(j);
         if buyer_fault.is_some() || seller_fault.is_some() {
             self.punish(j, buyer_fault, seller_fault);
             self.matches[j].stage = Stage::Ended;
@@ -590,10 +595,10 @@ impl Book {
             }
             return Ok(0);
         }
-        self.charge(m.buyer, v);
+        self.charge(buyer, v);
         self.matches[j].held = v;
         let ordinary = self.receipts.iter().any(|r| r.state == State::Frozen(j) && !r.bonded);
-        self.matches[j].stage = match (self.board, self.accounts[m.buyer].overseas && ordinary) {
+        self.matches[j].stage = match (self.board, self.accounts[buyer].overseas && ordinary) {
             (true, _) => Stage::Prepaid,
             (false, true) => Stage::Awaiting,
             (false, false) => Stage::Funded,

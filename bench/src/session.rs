@@ -11,7 +11,7 @@ fn arguments(number: u64) -> Option<usize> {
 }
 
 /// The numbers of a line, of which there are at most nine; `None` where the line is not of the form.
-fn numbers(line: &[u8], values: &mut [u64; 9]) -> Option<usize> {
+pub(crate) fn numbers(line: &[u8], values: &mut [u64; 9]) -> Option<usize> {
     let (&last, body) = line.split_last()?;
     if last != b'\n' {
         return None;
@@ -165,6 +165,11 @@ fn page_with(heats: Option<&[u64]>, input: &[u8], out: &mut Vec<u8>) -> usize {
         None => answer_line(first.expect("line one is answered"), out),
     }
     out.len()
+}
+
+/// The book after a session, by the printed heat table, or none where line one is refused.
+pub fn book(input: &[u8]) -> Option<Book> {
+    play(None, input, |_| {})
 }
 
 pub fn run(input: &[u8], out: &mut Vec<u8>) -> usize {

@@ -1,5 +1,9 @@
-//! Runs the proved book and the plain one over the same sessions and compares every byte, of the sessions and of the pages, with the printed heat table and with others, and the heat table: differ [SESSIONS]
-use bench::generate::{damage, heat_table, measured, own_table, session, short_session, vessels, Random};
+//! Runs the proved book and the plain one over the same sessions and compares every byte, of the sessions and of the pages, with the printed heat table and with others, and the heat table; and settles matches of both in either order: differ [SESSIONS]
+use bench::generate::{clerks, damage, heat_table, measured, own_table, session, short_session, vessels, Random};
+use bench::orders::{exchanged, neighbours, Tried};
+
+/// Makes a session from a seed, of so many calls.
+type Make = fn(u64, usize) -> Vec<u8>;
 
 /// Whether a text is written into a buffer of its own length, and into longer ones, whose later bytes stay, and not into a shorter one, which stays as it was.
 fn lent_agrees(text: &[u8], rooms: &[usize], write: impl Fn(&mut [u8]) -> usize) -> bool {
@@ -49,10 +53,23 @@ fn heats_agree(ours: &mut Vec<u8>, plain: &mut Vec<u8>) -> bool {
     })
 }
 
+/// Tries settling in either order on the plain book after a session, and after about so many of its lines; gives the lines of a book on which two calls differ, and the two.
+fn orders_agree<'a>(text: &'a [u8], within: u64, r: &mut Random, tried: &mut Tried) -> Result<(), (&'a [u8], String)> {
+    let ends: Vec<usize> = (1..text.len()).filter(|&n| text[n - 1] == b'\n').collect();
+    let some = ends.iter().filter(|_| r.below(ends.len() as u64) < within);
+    for lines in some.chain([&text.len()]).map(|&end| &text[..end]) {
+        if let Some(book) = bench::session::book(lines) {
+            tried.orders(&book).map_err(|calls| (lines, calls))?;
+        }
+    }
+    Ok(())
+}
+
 fn main() {
     let count: u64 = std::env::args().nth(1).and_then(|a| a.parse().ok()).unwrap_or(20_000);
     let (mut ours, mut plain, mut page, mut by_table, mut page_by) = (Vec::new(), Vec::new(), Vec::new(), Vec::new(), Vec::new());
     let (mut refused, mut other) = (0usize, 0usize);
+    let (mut tried, mut swaps, mut swaps_accepted) = (Tried::default(), 0usize, 0usize);
     if !table_agrees() || !heats_agree(&mut ours, &mut plain) {
         println!("the heat table, or a price that is looked up in it, differs");
         std::process::exit(1);
@@ -66,10 +83,11 @@ fn main() {
             7 | 8 => 200 + r.below(1_200),
             _ => 3_000 + r.below(3_200),
         } as usize;
-        let make = match seed % 8 {
-            1 | 5 => short_session,
-            2 => vessels,
-            _ => session,
+        let (make, within): (Make, u64) = match seed % 8 {
+            1 | 5 => (short_session, 1),
+            2 => (vessels, 1),
+            6 => (clerks, 30),
+            _ => (session, 1),
         };
         let mut text = make(seed, calls);
         if seed % 3 == 0 {
@@ -97,6 +115,22 @@ fn main() {
             println!("session {} differs with a heat table of its own: see differs.in and differs.table", seed);
             std::process::exit(1);
         }
+        if let Err((lines, calls)) = orders_agree(&text, within, &mut r, &mut tried) {
+            std::fs::write("differs.in", lines).expect("written");
+            println!("session {} differs in the order of {}: see differs.in", seed, calls);
+            std::process::exit(1);
+        }
+        let places = bench::session::book(&text).map_or(Vec::new(), |book| neighbours(&book, &text));
+        let text_exchanged = exchanged(&text, &places);
+        let n = bench::proved::run(&text_exchanged, &mut ours);
+        if ours[..n] != exchanged(&plain, &places) {
+            std::fs::write("differs.in", &text_exchanged).expect("written");
+            println!("session {} differs with lines exchanged: see differs.in", seed);
+            std::process::exit(1);
+        }
+        let answers: Vec<&[u8]> = plain.split(|&c| c == b'\n').collect();
+        swaps += places.len();
+        swaps_accepted += places.iter().filter(|&&n| answers[n..n + 2].iter().all(|l| l.starts_with(b"ok "))).count();
         refused += (by_table == b"no 31\n") as usize;
         other += (by_table != plain && by_table != b"no 31\n") as usize;
         bytes += text.len();
@@ -105,4 +139,5 @@ fn main() {
         accepted += plain.split(|&c| c == b'\n').filter(|l| l.starts_with(b"ok ")).count();
     }
     println!("{} sessions, {} bytes in, {} lines out, {} accepted, {} lines of pages; each again with a heat table of its own, of which {} are refused and {} change the output: every byte the same", count, bytes, lines, accepted, page_lines, refused, other);
+    println!("settled in either order: {}; {} times two neighbouring lines exchanged for the proved book, {} of them both accepted: every answer and book the same", tried, swaps, swaps_accepted);
 }

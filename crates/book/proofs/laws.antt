@@ -30,3 +30,5 @@ pub mod PaidFor
 pub mod Auctions
 pub mod OwnTable
 pub mod Vessels
+pub mod Acts
+pub mod EitherOrder

@@ -25,3 +25,4 @@ pub mod PaidFor
 pub mod Auctions
 pub mod OwnTable
 pub mod Vessels
+pub mod EitherOrder

@@ -17,6 +17,8 @@ pub mod HeatLate
 pub mod Measured
 pub mod Over
 pub mod Vessels
+pub mod EitherOrder
+pub mod OtherMachines
 pub mod Halves
 pub mod Deductions
 pub mod Tables

@@ -10,9 +10,10 @@ use Rattle.book.specs.Outcomes.{Answer, Outcome}
 use Rattle.book.specs.Answers.{refuse, accept, is_accepted}
 use Rattle.book.specs.Calls.{step}
 use Rattle.book.specs.Opening.{opening, no_book}
-use Rattle.book.specs.Lists.{Reached, opened as reached-opening, called, after}
+use Rattle.book.specs.Lists.{Reached, opened as reached-opening, after}
 use Rattle.book.specs.Demand3.{Holds}
 use Rattle.book.proofs.laws.Counting.{by_pick}
+use Rattle.book.proofs.laws.Steps.{after_reached}
 use Rattle.book.proofs.laws.Demand.{demand_3}
 use Rattle.reader.specs.declared.lines.BadLine.{BadLine}
 use Rattle.book.specs.declared.calls.Opening.{Opening}
@@ -70,11 +71,6 @@ begun heats i s = by_pick (λ (o : Outcome). is_accepted o.answer ≡ true → R
     (λ _ a. absurd (true≢false (sym a)))
     (λ _ a. by_opening (λ (o : Outcome). Reached o.book) heats (reached-opening heats i) (lines s) a)
 
-after_reached : {b : Book} (cs : List Call) → Reached b → Reached (after b cs)
-unfolding after
-after_reached {b = b} [] h = h
-after_reached {b = b} (c ∷ cs) h = after_reached {b = (step b c).book} cs (called c h)
-
 -- ---- the whole, from line one on
 
 module _ (heats s : List ℕ) (n : ℕ) (e : refuse n no_book ≡ line_one heats s) where
@@ -107,5 +103,5 @@ delivered {heats} {s} {x} {out} {r} i p =
 pub outcome_led : (heats : List ℕ) → IsHeatTable heats → (s : List ℕ) → is_accepted (outcome heats s).answer ≡ true → Reached (outcome heats s).book
 unfolding outcome
 outcome_led heats i s = by_pick (λ (o : Outcome). is_accepted o.answer ≡ true → Reached o.book) (is_accepted (line_one heats s).answer)
-    (λ a _. after_reached (calls_of (later (lines s))) (begun heats i s a))
+    (λ a _. after_reached _ (calls_of (later (lines s))) (begun heats i s a))
     (λ a h. absurd (true≢false (sym h ∙ a)))

@@ -38,6 +38,11 @@ unfolding after
 after_tables b [] r = r
 after_tables b (c ∷ cs) r = after_tables (step b c).book cs (step_tables b c r)
 
+pub after_reached : (b : Book) (cs : List Call) → Reached b → Reached (after b cs)
+unfolding after
+after_reached b [] h = h
+after_reached b (c ∷ cs) h = after_reached (step b c).book cs (called c h)
+
 pub reached_tables : {b : Book} → Reached b → SoundTables b
 reached_tables (opened heats s kind t r p e) = opening_tables heats s kind t r p
 reached_tables (called {b = b} c h) = step_tables b c (reached_tables h)
