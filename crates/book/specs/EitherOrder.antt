@@ -4,7 +4,7 @@ use Rattle.book.specs.Types.{Book, Outcome, Call}
 use Rattle.book.specs.Tables.{match_at}
 use Rattle.book.specs.Lists.{Reached}
 
--- account k is a party of match j: its buyer or its seller. A number that is no match has no party
+-- account k is a party of match j: its "buyer" or its "seller". A number that is no match has no party
 unfoldable pub is_party : Book → ℕ → ℕ → Bool
 is_party b j k = ltb j b.match_count && (eqb (match_at b j).buyer k || eqb (match_at b j).seller k)
 

@@ -1,4 +1,5 @@
--- Machines that are not the book's: each breaks the statement on settling in either order, at a reached book and two matches with no account in common. Assumes nothing.
+-- Machines that are not the book's: each breaks the statement on settling in either order, of two matches with no account in common, at a reached book to which it comes
+-- itself by the same calls. Assumes nothing.
 use Rattle.std.specs.Prelude.{◌≡◌, refl, true, false, ◌||◌, List, [], ◌∷◌, ◌++◌, ℕ, ◌+◌, ◌<◌, ltb, eqb, nat_abs}
 use Rattle.std.proofs.Common.{sym, ap, ◌∙◌, arith, ne_eqb}
 use Rattle.coal.specs.Choice.{pick}
@@ -71,6 +72,11 @@ apart_0_3 k e = parties_3 k ∙ disjoint 0 1 6 7 k (omega arith) (omega arith) (
 apart_3_4 : Apart funded 3 4
 apart_3_4 k e = parties_4 k ∙ disjoint 6 7 8 9 k (omega arith) (omega arith) (omega arith) (omega arith) (sym (parties_3 k) ∙ e)
 
+-- the book that a machine leaves after a list of calls
+abbrev after_by : Machine → Book → List Call → Book
+after_by m b [] = b
+after_by m b (c ∷ cs) = after_by m (m b c).book cs
+
 -- ---- penalties that depend on the fund: they grow with it
 
 abbrev with_rate : Book → ℕ → Book
@@ -78,6 +84,10 @@ with_rate b r = record { board = b.board; tonnes = b.tonnes; rate = r; heats = b
 
 by_fund : Machine
 by_fund b c = let o = step (with_rate b (b.rate + b.fund)) c in record { answer = o.answer; book = with_rate o.book b.rate }
+
+by_fund_reaches : after_by by_fund (book_of 0 1 20 100) lines ≡ funded
+unfolding play after by_fund
+by_fund_reaches = refl
 
 -- the buyer of match 1 owes 40 where match 0, both of whose parties are at fault, was paid before it
 by_fund_breaks : InEitherOrder by_fund → ⊥
@@ -88,6 +98,10 @@ by_fund_breaks s = let z : ◌≡◌ {A = ℕ} 40 20 = ap (λ (e : Book). nat_ab
 
 still_paired : Machine
 still_paired b c = accept (tally b.match_count 0 (λ j. is_paired (match_at b j).stage)) (step b c).book
+
+still_paired_reaches : after_by still_paired (book_of 0 1 20 100) lines ≡ funded
+unfolding play after still_paired
+still_paired_reaches = refl
 
 abbrev carried : Answer → ℕ
 carried (Answer.Accepted n) = n
@@ -107,7 +121,12 @@ abbrev pay_held : ℕ → Book → Book
 pay_held j b = pick (is_held (match_at b j).stage) (set_stage (pay b (match_at b j).seller (match_at b j).held) j 0 Stage.Closed) b
 
 pays_held : Machine
-pays_held b c = step (iter b.match_count 0 pay_held b) c
+pays_held b (Call.HandOver j) = step (iter b.match_count 0 pay_held b) (Call.HandOver j)
+pays_held b c = step b c
+
+pays_held_reaches : after_by pays_held (book_of 0 1 20 100) lines ≡ funded
+unfolding play after pays_held
+pays_held_reaches = refl
 
 -- of matches 3 and 4 the one that is handed over first is closed by the other
 pays_held_breaks : InEitherOrder pays_held → ⊥
@@ -118,6 +137,10 @@ pays_held_breaks s = let z : ◌≡◌ {A = ℕ} 0 20 = ap (λ (e : Book). (matc
 
 stops : Machine
 stops b c = refuse_if (ltb 0 b.fund) 22 b (step b c)
+
+stops_reaches : after_by stops (book_of 0 1 20 100) lines ≡ funded
+unfolding play after stops
+stops_reaches = refl
 
 stops_breaks : InEitherOrder stops → ⊥
 unfolding play after stops

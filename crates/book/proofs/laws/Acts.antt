@@ -214,7 +214,7 @@ pub record Left (b e : Book) (i : ℕ) : Type 0 where
 
 pub run_left : (b : Book) (i j : ℕ) → i ≢ j → (x : Verdict) → Spares (match_at b i).buyer x → Spares (match_at b i).seller x → Left b (run b j x).book i
 unfolding act frozen_receipts frozen_at ordinary_receipts ordinary_at
-run_left b i j d (no n) g h = record { count = refl; day = refl; board = refl; tonnes = refl; rate = refl; row = refl; buyer = refl; seller = refl; frozen = refl; ordinary = refl }
+run_left b i j d (no n) g h = search
 run_left b i j d (does a) g h =
     let f = moved a.move j in
     let n = b.receipt_count in

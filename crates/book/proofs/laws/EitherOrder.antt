@@ -48,10 +48,10 @@ pay_run b j = let e = paid_act b j (buyer_fault b j) (seller_fault b j) in searc
 
 pay_act_spares : (b : Book) (j k : ℕ) (m : Match) (x y : Option ℕ) → k ≢ m.buyer → k ≢ m.seller → Off k (pay_act b j m x y).entries
 unfolding pay_entries penalty_entries
-pay_act_spares b j k m None None g h = (g, tt)
-pay_act_spares b j k m (Some x) None g h = (g, (h, tt))
-pay_act_spares b j k m None (Some y) g h = (h, (g, tt))
-pay_act_spares b j k m (Some x) (Some y) g h = (g, (h, tt))
+pay_act_spares b j k m None None g h = search
+pay_act_spares b j k m (Some x) None g h = search
+pay_act_spares b j k m None (Some y) g h = search
+pay_act_spares b j k m (Some x) (Some y) g h = search
 
 pay_spares : (b : Book) (j k : ℕ) → k ≢ (match_at b j).buyer → k ≢ (match_at b j).seller → Spares k (pay_verdict b j)
 unfolding pay_verdict
@@ -64,7 +64,7 @@ module _ (b e : Book) (i : ℕ) (s : Left b e i) where
 
   buyer_left : buyer_fault e i ≡ buyer_fault b i
   unfolding buyer_fault
-  buyer_left = rw (s.row, value_left (match_at b i), s.buyer, s.rate)
+  buyer_left = rw (s.row, value_left, s.buyer, s.rate)
 
   seller_left : seller_fault e i ≡ seller_fault b i
   unfolding seller_fault
@@ -76,14 +76,14 @@ module _ (b e : Book) (i : ℕ) (s : Left b e i) where
 
   act_left : (x y : Option ℕ) → pay_act e i (match_at b i) x y ≡ pay_act b i (match_at b i) x y
   unfolding pay_entries penalty_entries penalty
-  act_left None None = rw (value_left (match_at b i), stage_left)
-  act_left (Some x) None = rw (value_left (match_at b i))
-  act_left None (Some y) = rw (value_left (match_at b i))
-  act_left (Some x) (Some y) = rw (value_left (match_at b i))
+  act_left None None = rw (value_left, stage_left)
+  act_left (Some x) None = rw value_left
+  act_left None (Some y) = rw value_left
+  act_left (Some x) (Some y) = rw value_left
 
   pay_left : pay_verdict e i ≡ pay_verdict b i
   unfolding pay_verdict
-  pay_left = rw (buyer_left, seller_left, s.row, act_left (buyer_fault b i) (seller_fault b i), s.count, s.day)
+  pay_left = rw (buyer_left, seller_left, s.row, act_left, s.count, s.day)
 
 -- ---- Hand over
 
@@ -176,7 +176,7 @@ module _ {c d : ℕ → Call} (p : Local c) (q : Local d) (b : Book) (i j : ℕ)
       (λ h. q.missing _ j (omega (arith, run_count b i (p.verdict b i))) ∙ sym (q.missing b j h))
       (λ h. by_there b i
       (λ g. rw (p.missing b i g))
-      (λ g. q.reads b _ j (run_left b j i (two b j i a h) (p.verdict b i) (spared (match_at b j).buyer (buyer_is b j h) g) (spared (match_at b j).seller (seller_is b j h) g)))))
+      (λ g. q.reads b _ j (run_left b j i (two b j i a h) (p.verdict b i) (spared _ (buyer_is b j h) g) (spared _ (seller_is b j h) g)))))
 
   then_runs : step (step b (c i)).book (d j) ≡ run (step b (c i)).book j (q.verdict b j)
   then_runs = let e = (step b (c i)).book in q.runs e j ∙ ap (run e j) verdict_left
@@ -188,7 +188,7 @@ module _ {c d : ℕ → Call} (p : Local c) (q : Local d) (b : Book) (i j : ℕ)
   book_then = rw (then_runs, p.runs b i)
 
   book_both : (run (run b i (p.verdict b i)).book j (q.verdict b j)).book ≡ (run (run b j (q.verdict b j)).book i (p.verdict b i)).book
-  book_both = by_there b j (λ h. rw (q.missing b j h)) (λ h. run_both b i j (λ e. two b j i a h (sym e)) (p.verdict b i) (q.verdict b j))
+  book_both = by_there b j (λ h. rw (q.missing b j h)) (λ h. run_both b i j (λ e. two b j i a h (sym e)) _ _)
 
 either : {c d : ℕ → Call} → Local c → Local d → (b : Book) (i j : ℕ) → Apart b i j → EitherOrder step b (c i) (d j)
 either p q b i j a =
