@@ -40,10 +40,10 @@ static int either_order(const char *book, const char *one, const char *other) {
 }
 
 /* match 0 of accounts 0 and 1, match 1 of accounts 2 and 3; account 2 has no cash */
-#define APART "0 0 5 20 600000\n1 0 1\n1 0 1\n1 0 1\n1 0 1\n2 0 3000000\n4 0 1 1\n4 2 3 1\n5 1 0\n5 3 0\n12\n11 600000\n"
+#define APART "0 0 5 20 600000\n1 0 1\n1 0 1\n1 0 1\n1 0 1\n2 0 3000000\n4 0 1 1\n4 2 3 1\n5 1 0\n5 3 0\n12 0\n11 600000\n"
 
 /* account 0 buys in both, with the cash for one */
-#define IN_COMMON "0 0 5 20 600000\n1 0 1\n1 0 1\n1 0 1\n2 0 3000000\n4 0 1 1\n4 0 2 1\n5 1 0\n5 2 0\n12\n11 600000\n"
+#define IN_COMMON "0 0 5 20 600000\n1 0 1\n1 0 1\n1 0 1\n2 0 3000000\n4 0 1 1\n4 0 2 1\n5 1 0\n5 2 0\n12 0\n11 600000\n"
 
 int main(void) {
     int apart = either_order(APART, "13 0", "13 1");

@@ -11,7 +11,7 @@ static int print_page(const char *title, const char *session) {
     return n == 0 || fwrite(page, 1, n, stdout) != n;
 }
 
-#define MORNING "0 0 5 20 600000\n1 0 1\n1 0 1\n2 1 6000000\n4 1 0 2\n5 0 0\n5 0 0\n12\n11 600000\n13 0\n"
+#define MORNING "0 0 5 20 600000\n1 0 1\n1 0 1\n2 1 6000000\n4 1 0 2\n5 0 0\n5 0 0\n12 0\n11 600000\n13 0\n"
 
 int main(void) {
     /* stage 5: the money is held, the receipts are frozen and the seller's */

@@ -5,7 +5,7 @@
 
 int main(void) {
     static const char session[] =
-        "0 0 5 20 600000\n1 0 1\n1 1 1\n2 1 7000000\n4 1 0 2\n5 0 1\n5 0 0\n12\n11 610000\n13 0\n17 0\n";
+        "0 0 5 20 600000\n1 0 1\n1 1 1\n2 1 7000000\n4 1 0 2\n5 0 1\n5 0 0\n12 0\n11 610000\n13 0\n17 0\n";
     const uint8_t *input = (const uint8_t *)session;
     static uint8_t page[DELIVERY_PAGE_ROOM];
     size_t length = delivery_page(input, strlen(session), page, sizeof page);

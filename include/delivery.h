@@ -13,6 +13,8 @@
    An output of less than DELIVERY_ROOM bytes is refused: 0 is returned and nothing is written. An input above 65,536 bytes,
    and an empty one, print `no 26`. An accepted Measure (call 14: match, W, Q, M, S, F, A, and the vessel's due kilograms) prints `ok n` with n the kilograms
    weighed above the due ones + 500,000; its match, stage 1, is paid for when the due kilograms of its vessels, up to eight, add up to its own.
+   An accepted Close (call 12: a budget of 0 to 1,023 balance tests) prints `ok pairs tests gap`: the pairs made after the first pass, the balance tests made,
+   and a gap such that no pairing that empties every position left after that pass has fewer pairs than pairs less gap.
    In a receipts book Pay (call 13) funds a match, stage 5, and Hand over (call 17) then passes its receipts and pays its seller;
    a match of an overseas buyer with any ordinary receipt it puts in stage 6, awaiting auction, which Auction (call 18: match, winner, proceeds) ends.
    The two buffers must not overlap. */

@@ -1,5 +1,6 @@
 //! Sessions made from a seed: mostly sensible calls, with wrong ones and damaged lines mixed in.
 use crate::machine::{Book, Stage};
+use crate::passes::walk;
 
 pub struct Random(u64);
 
@@ -68,6 +69,18 @@ fn price(r: &mut Random) -> u64 {
 fn number(r: &mut Random, accounts: u64) -> u64 {
     let beyond = if r.chance(2) { 2 } else { 0 };
     r.below(accounts + beyond)
+}
+
+/// A budget of Close, now and then one out of its range.
+fn budget(r: &mut Random) -> u64 {
+    match r.below(12) {
+        0 => r.pick(&[1_024, 1_025, 9_999, 999_999_999_999_999_999]),
+        1 => r.pick(&[1, 2, 1_022]),
+        2 | 3 => 0,
+        4 | 5 => r.below(64),
+        6..=8 => r.below(1_024),
+        _ => 1_023,
+    }
 }
 
 /// A vessel's due kilograms: what the vessels before it left of match `j`, or in `parts` of 100 a part of that; now and then none, too many, or those of some units.
@@ -159,7 +172,7 @@ fn call(r: &mut Random, book: &Book, accounts: u64, late: u64) -> Vec<u64> {
         9 => c.push(k),
         10 => c.extend([k, l]),
         11 => c.push(price(r)),
-        12 => {}
+        12 => c.push(budget(r)),
         13 | 15 | 17 => c.push(j),
         18 => c.extend([j, k, if r.chance(30) { 0 } else { amount(r) }]),
         14 => return measure(r, book, j, 20),
@@ -239,7 +252,7 @@ fn short_call(r: &mut Random, board: bool, accounts: u64, late: u64) -> Vec<u64>
         (45..=64, false) => vec![17, j],
         (65..=69, false) => vec![18, j, k, if r.chance(30) { 0 } else { small }],
         (70..=74, false) => vec![15, j],
-        (97..=99, false) => vec![12],
+        (97..=99, false) => vec![12, r.pick(&[0, 9, 99, 999, 1_023, 1_024])],
         _ => vec![15, j],
     }
 }
@@ -323,7 +336,7 @@ pub fn clerks(seed: u64, calls: usize) -> Vec<u8> {
         }
         first.extend([vec![8, seller, units], vec![10, buyer, seller]].into_iter().filter(|_| r.chance(80)));
     }
-    first.extend([vec![12], vec![11, price], vec![11, price]].into_iter().filter(|_| r.chance(80)));
+    first.extend([vec![12, budget(&mut r)], vec![11, price], vec![11, price]].into_iter().filter(|_| r.chance(80)));
     for c in first.iter().take(calls) {
         written.write(c);
     }
@@ -342,6 +355,57 @@ pub fn clerks(seed: u64, calls: usize) -> Vec<u8> {
             (16..=90, Stage::Funded) | (91..=99, Stage::Paired) => vec![17, place as u64],
             _ => vec![13, place as u64],
         };
+        written.write(&c);
+    }
+    written.text
+}
+
+/// Units for `n` accounts, each with whether it is long: groups of one account against some of the other side, with up to `most` units each, that have as many together; in `long` groups of 100 the one is long.
+fn groups(r: &mut Random, n: u64, most: u64, long: u64) -> Vec<(bool, u64)> {
+    let (mut units, mut left) = (Vec::new(), n);
+    while left > 0 {
+        let size = if left < 6 { left } else { 3 + r.below(3.min(left - 5)) };
+        let others: Vec<u64> = (1..size).map(|_| 1 + r.below(most)).collect();
+        let one_long = r.chance(long);
+        units.push((one_long, others.iter().sum()));
+        units.extend(others.iter().map(|&x| (!one_long, x)));
+        left -= size;
+    }
+    units
+}
+
+/// A session from a seed, of at most `calls` calls, for Close's passes after the first: two to fourteen accounts long or short, mostly by few units, in groups that make balanced masks, and up to three with none; in a receipts book overseas buyers and bonded receipts, with which the first pass takes some away.
+pub fn few(seed: u64, calls: usize) -> Vec<u8> {
+    let mut r = Random::new(seed);
+    let board = r.chance(50);
+    let mut written = Written::open(board as u64, 1 + r.below(20), r.below(101), 1 + r.below(1_000));
+    let remaining = (if r.chance(60) { 6 + r.below(5) } else { 2 + r.below(13) }).min(2 + calls as u64 / 6);
+    let (most, long) = (r.pick(&[1, 3, 4, 9, 40, 200]), r.pick(&[0, 50, 100]));
+    let sides = groups(&mut r, remaining, most, long);
+    let mut numbers: Vec<u64> = (0..remaining + r.below(4)).collect();
+    for k in 1..numbers.len() {
+        numbers.swap(k, r.below(k as u64 + 1) as usize);
+    }
+    let mut first: Vec<Vec<u64>> = numbers.iter().map(|_| vec![1, r.below(2), r.chance(85) as u64]).collect();
+    let on_side = |is_long: bool| sides.iter().zip(&numbers).filter(|x| x.0 .0 == is_long).map(|(&(_, units), &k)| (k as usize, units)).collect();
+    for (buyer, seller, units) in walk(on_side(true), on_side(false)) {
+        first.push(vec![4, buyer as u64, seller as u64, units]);
+        let lodged = if board || r.chance(60) { 0 } else { r.below(units.min(6) + 2) };
+        first.extend((0..lodged).map(|_| vec![5, seller as u64, r.chance(80) as u64]));
+        first.extend(r.chance(5).then(|| vec![11, 1 + r.below(1_000)]));
+    }
+    let last = (1 << remaining.min(10)) - 1;
+    let tests = match r.below(10) {
+        0 | 1 => near(&mut r, &[last]),
+        2..=5 => budget(&mut r),
+        _ => 1_023,
+    };
+    first.extend([vec![12, tests], vec![12, 1_023], vec![11, 1 + r.below(1_000)]]);
+    for c in first.iter().take(calls) {
+        written.write(c);
+    }
+    for _ in first.len()..calls {
+        let c = call(&mut r, &written.book, remaining, 100);
         written.write(&c);
     }
     written.text

@@ -2,5 +2,6 @@
 pub mod machine;
 pub mod generate;
 pub mod orders;
+pub mod passes;
 pub mod proved;
 pub mod session;

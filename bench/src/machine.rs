@@ -1,5 +1,6 @@
 //! The machine: a book and its eighteen calls, changed in place.
 
+use crate::passes::{later_passes, walk, Later, Pair, Units};
 use std::cmp::Ordering;
 
 #[derive(Clone, Copy, PartialEq, Eq)]
@@ -128,8 +129,15 @@ pub struct Book {
     pub matches: Vec<Match>,
 }
 
+/// What an accepted call carries: a number, or of Close "pairs made, tests made and a gap" (document 02, Job 13).
+#[derive(Clone, Copy, PartialEq, Eq)]
+pub enum Carried {
+    Number(u64),
+    Closed { pairs: u64, tests: u64, gap: u64 },
+}
+
 /// What an accepted call carries, or the number of the refusal.
-pub type Answer = Result<u64, u64>;
+pub type Answer<T = u64> = Result<T, u64>;
 
 fn half_up(n: u128, d: u128) -> u128 {
     (2 * n + d) / (2 * d)
@@ -261,8 +269,8 @@ impl Book {
     }
 
     /// One call: its number, then its arguments.
-    pub fn call(&mut self, number: u64, a: &[u64]) -> Answer {
-        match number {
+    pub fn call(&mut self, number: u64, a: &[u64]) -> Answer<Carried> {
+        let n = match number {
             1 => self.join(a[0], a[1]),
             2 => self.deposit(a[0], a[1]),
             3 => self.withdraw(a[0], a[1]),
@@ -274,14 +282,15 @@ impl Book {
             9 => self.retract(a[0]),
             10 => self.take(a[0], a[1]),
             11 => self.next_day(a[0]),
-            12 => self.close(),
+            12 => return self.close(a[0]),
             13 => self.pay_match(a[0]),
             14 => self.measure(a[0], a[1], a[2], a[3], a[4], a[5], a[6], a[7]),
             15 => self.invoice(a[0]),
             16 => self.terminate(a[0], a[1]),
             17 => self.hand_over(a[0]),
             _ => self.auction(a[0], a[1], a[2]),
-        }
+        }?;
+        Ok(Carried::Number(n))
     }
 
     fn account(&self, k: u64) -> Result<usize, u64> {
@@ -467,32 +476,13 @@ impl Book {
         Ok(self.day)
     }
 
-    fn on_side(&self, side: Side) -> Vec<(usize, u64)> {
+    fn on_side(&self, side: Side) -> Vec<Units> {
         let of = |k: usize| (k, self.accounts[k].units);
         (0..self.accounts.len()).filter(|&k| self.accounts[k].side == side).map(of).collect()
     }
 
-    /// "Walk": the pairs of two lists, each a buyer, a seller and units.
-    fn walk(mut buyers: Vec<(usize, u64)>, mut sellers: Vec<(usize, u64)>) -> Vec<(usize, usize, u64)> {
-        let mut pairs = Vec::new();
-        let (mut i, mut j) = (0, 0);
-        while i < buyers.len() && j < sellers.len() {
-            let units = buyers[i].1.min(sellers[j].1);
-            pairs.push((buyers[i].0, sellers[j].0, units));
-            buyers[i].1 -= units;
-            sellers[j].1 -= units;
-            if buyers[i].1 == 0 {
-                i += 1;
-            }
-            if sellers[j].1 == 0 {
-                j += 1;
-            }
-        }
-        pairs
-    }
-
     /// The overseas buyers' lots, "by day, then account number".
-    fn overseas_lots(&self) -> Vec<(usize, u64)> {
+    fn overseas_lots(&self) -> Vec<Units> {
         let mut lots = Vec::new();
         for (k, a) in self.accounts.iter().enumerate() {
             if a.overseas && a.side == Side::Long {
@@ -503,44 +493,41 @@ impl Book {
         lots.iter().map(|&(_, k, units)| (k, units)).collect()
     }
 
-    fn close(&mut self) -> Answer {
+    fn first_pass(&self) -> Vec<Pair> {
+        let mut sellers = self.on_side(Side::Short);
+        for s in sellers.iter_mut() {
+            s.1 = s.1.min(self.free_receipts(s.0, true));
+        }
+        sellers.retain(|s| s.1 > 0);
+        // "neighbouring units of one pair still make one match"
+        let mut joined: Vec<Pair> = Vec::new();
+        for (buyer, seller, units) in walk(self.overseas_lots(), sellers) {
+            match joined.last_mut() {
+                Some(last) if last.0 == buyer && last.1 == seller => last.2 += units,
+                _ => joined.push((buyer, seller, units)),
+            }
+        }
+        joined
+    }
+
+    /// "pairs are those made after the first pass" (document 02, Job 13).
+    fn close(&mut self, budget: u64) -> Answer<Carried> {
         no(!self.open, 5)?;
-        let before = self.matches.len();
+        no(budget > 1_023, 8)?;
         if !self.board {
-            let mut sellers = self.on_side(Side::Short);
-            for s in sellers.iter_mut() {
-                s.1 = s.1.min(self.free_receipts(s.0, true));
-            }
-            sellers.retain(|s| s.1 > 0);
-            // "neighbouring units of one pair still make one match"
-            let mut joined: Vec<(usize, usize, u64)> = Vec::new();
-            for (buyer, seller, units) in Self::walk(self.overseas_lots(), sellers) {
-                match joined.last_mut() {
-                    Some(last) if last.0 == buyer && last.1 == seller => last.2 += units,
-                    _ => joined.push((buyer, seller, units)),
-                }
-            }
-            for (buyer, seller, units) in joined {
+            for (buyer, seller, units) in self.first_pass() {
                 self.pair(buyer, seller, units, 1, true);
             }
         }
-        for k in 0..self.accounts.len() {
-            if self.accounts[k].side == Side::Long {
-                let units = self.accounts[k].units;
-                let equal = |a: &Account| a.side == Side::Short && a.units == units;
-                if let Some(l) = self.accounts.iter().position(equal) {
-                    self.pair(k, l, units, 1, false);
-                }
-            }
-        }
-        for (buyer, seller, units) in Self::walk(self.on_side(Side::Long), self.on_side(Side::Short)) {
+        let Later { pairs, tests, gap } = later_passes(self.on_side(Side::Long), self.on_side(Side::Short), budget);
+        for &(buyer, seller, units) in &pairs {
             self.pair(buyer, seller, units, 1, false);
         }
         for a in self.accounts.iter_mut() {
             a.offer = None;
         }
         self.open = false;
-        Ok((self.matches.len() - before) as u64)
+        Ok(Carried::Closed { pairs: pairs.len() as u64, tests, gap })
     }
 
     /// By the percent of the buyer's fault and of the seller's.

@@ -1,5 +1,5 @@
 //! Settling in either order (document 02, Job 12): Pay and Hand over of matches with no account in common.
-use crate::machine::{Answer, Book, Stage};
+use crate::machine::{Answer, Book, Carried, Stage};
 use crate::session::numbers;
 use std::collections::BTreeMap;
 use std::fmt;
@@ -33,7 +33,7 @@ fn kind(book: &Book, number: u64, j: usize, after: &Book) -> &'static str {
 struct Settling {
     number: u64,
     i: u64,
-    answer: Answer,
+    answer: Answer<Carried>,
     kind: Option<&'static str>,
     after: Option<Book>,
 }

@@ -1,12 +1,12 @@
 //! The session program: from the bytes of the input to the bytes of the output, or to the page of the book after it.
-use crate::machine::{load, Answer, Book, Side, Stage, State};
+use crate::machine::{load, Answer, Book, Carried, Side, Stage, State};
 use std::io::Write;
 
 const LARGEST: usize = 65_536;
 
 /// How many arguments each call has, by number; `None` for no call.
 fn arguments(number: u64) -> Option<usize> {
-    const COUNTS: [usize; 19] = [4, 2, 2, 2, 3, 2, 2, 2, 2, 1, 2, 1, 0, 1, 8, 1, 2, 1, 3];
+    const COUNTS: [usize; 19] = [4, 2, 2, 2, 3, 2, 2, 2, 2, 1, 2, 1, 1, 1, 8, 1, 2, 1, 3];
     COUNTS.get(usize::try_from(number).ok()?).copied()
 }
 
@@ -110,7 +110,7 @@ fn ledger_page(book: &Book, out: &mut Vec<u8>) {
 }
 
 /// Runs the lines of a session, with a port's own heat table or none, and hands each answer to `tell`: the book after them, or none where line one is refused.
-fn play(heats: Option<&[u64]>, input: &[u8], mut tell: impl FnMut(Answer)) -> Option<Book> {
+fn play(heats: Option<&[u64]>, input: &[u8], mut tell: impl FnMut(Answer<Carried>)) -> Option<Book> {
     if input.is_empty() || input.len() > LARGEST {
         tell(Err(26));
         return None;
@@ -128,7 +128,7 @@ fn play(heats: Option<&[u64]>, input: &[u8], mut tell: impl FnMut(Answer)) -> Op
             return None;
         }
     };
-    tell(Ok(0));
+    tell(Ok(Carried::Number(0)));
     for line in lines {
         tell(match numbers(line, &mut values) {
             Some(count) if values[0] != 0 => book.call(values[0], &values[1..count]),
@@ -138,9 +138,10 @@ fn play(heats: Option<&[u64]>, input: &[u8], mut tell: impl FnMut(Answer)) -> Op
     Some(book)
 }
 
-fn answer_line(answer: Answer, out: &mut Vec<u8>) {
+fn answer_line(answer: Answer<Carried>, out: &mut Vec<u8>) {
     match answer {
-        Ok(n) => writeln!(out, "ok {}", n).unwrap(),
+        Ok(Carried::Number(n)) => writeln!(out, "ok {}", n).unwrap(),
+        Ok(Carried::Closed { pairs, tests, gap }) => writeln!(out, "ok {} {} {}", pairs, tests, gap).unwrap(),
         Err(n) => writeln!(out, "no {}", n).unwrap(),
     }
 }

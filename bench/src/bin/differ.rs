@@ -1,5 +1,5 @@
 //! Runs the proved book and the plain one over the same sessions and compares every byte, of the sessions and of the pages, with the printed heat table and with others, and the heat table; and settles matches of both in either order: differ [SESSIONS]
-use bench::generate::{clerks, damage, heat_table, measured, own_table, session, short_session, vessels, Random};
+use bench::generate::{clerks, damage, few, heat_table, measured, own_table, session, short_session, vessels, Random};
 use bench::orders::{exchanged, neighbours, Tried};
 
 /// Makes a session from a seed, of so many calls.
@@ -86,6 +86,7 @@ fn main() {
         let (make, within): (Make, u64) = match seed % 8 {
             1 | 5 => (short_session, 1),
             2 => (vessels, 1),
+            3 => (few, 1),
             6 => (clerks, 30),
             _ => (session, 1),
         };

@@ -13,6 +13,12 @@ pub mod Listing
 pub mod Joining
 pub mod Sharing
 pub mod Closing
+pub mod Masks
+pub mod Choosing
+pub mod Groups
+pub mod Plans
+pub mod Fewest
+pub mod Passes
 pub mod Taking
 pub mod Steps
 pub mod Journal
@@ -32,3 +38,4 @@ pub mod OwnTable
 pub mod Vessels
 pub mod Acts
 pub mod EitherOrder
+pub mod FewestPairs

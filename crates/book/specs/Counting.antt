@@ -40,3 +40,8 @@ list_if false x l = l
 unfoldable pub those : ℕ → ℕ → (ℕ → Bool) → List ℕ
 those zero i p = []
 those (suc n) i p = list_if (p i) i (those n (i + 1) p)
+
+-- P holds of each member of a list
+abbrev pub All : {A : Type 0} → (A → Type 0) → List A → Type 0
+All P [] = Unit {0}
+All P (x ∷ l) = P x × All P l

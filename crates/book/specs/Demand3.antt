@@ -118,7 +118,8 @@ pub record Holds (b : Book) (cs : List Call) (e : Book) : Type 0 where
   -- "no match has more of them than units."
   pub no_more : (j : ℕ) → j < e.match_count → frozen_receipts e j ≤ (match_at e j).units
   -- "If the list has an accepted Close, .."
-  pub closed : (front back : List Call) → cs ≡ front ++ Call.Close ∷ back → accepts (after b front) Call.Close ≡ true → FirstPass (after b front) (step (after b front) Call.Close).book
+  pub closed : (front back : List Call) (budget : ℕ) → cs ≡ front ++ Call.Close budget ∷ back → accepts (after b front) (Call.Close budget) ≡ true
+      → FirstPass (after b front) (step (after b front) (Call.Close budget)).book
 
 -- "For every list of the sixteen calls (Join to Terminate, any arguments, refused ones and defaults included) from one freshly opened book, this
 -- holds after it, in the words of document 01."; "Lists and sessions may hold call 17".

@@ -11,6 +11,7 @@ pub mod Accounts
 pub mod Receipts
 pub mod Pairing
 pub mod Offers
+pub mod Masks
 pub mod Closing
 pub mod Joining
 pub mod Settlement
@@ -26,3 +27,4 @@ pub mod Auctions
 pub mod OwnTable
 pub mod Vessels
 pub mod EitherOrder
+pub mod FewestPairs

@@ -56,7 +56,9 @@ pub enum Call {
     Day {
         price: u64,
     },
-    Close,
+    Close {
+        budget: u64,
+    },
     Pay {
         number: u64,
     },
@@ -80,4 +82,11 @@ pub enum Call {
         winner: u64,
         proceeds: u64,
     },
+}
+
+// What an accepted call carries: "carries 0 unless said"; "Close carries pairs made, tests made and a gap".
+#[derive(Clone, Copy)]
+pub enum Carried {
+    Number(u64),
+    Closed { pairs: u16, tests: u16, gap: u16 },
 }

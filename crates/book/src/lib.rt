@@ -13,9 +13,9 @@ pub mod tables;
 
 pub use accounts::{Account, Lot, Lots, Side};
 pub use amounts::{Amount, Percent};
-pub use calls::{Call, Opening};
+pub use calls::{Call, Carried, Opening};
 pub use matches::{Match, Stage};
 pub use month::Month;
 pub use receipts::{Receipt, ReceiptState};
 pub use refusals::{Refusal, flag};
-pub use tables::{Book, Listed, in_use};
+pub use tables::{Book, Listed, Pair, in_use};

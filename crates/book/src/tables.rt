@@ -38,6 +38,14 @@ pub struct Listed {
     pub day: u16,
 }
 
+// Units of a buyer and a seller that Close is to pair.
+#[derive(Clone, Copy, Default)]
+pub struct Pair {
+    pub buyer: u8,
+    pub seller: u8,
+    pub units: u16,
+}
+
 // The rows of a table that are in use, the first so many. Where they are changed, a slice is cut in place: lent to be changed by such a function, it is no shorter.
 pub fn in_use<T, const N: usize>(table: &[T; N], count: usize) -> &[T]
     requires { count ≤ N }

@@ -2,17 +2,17 @@
 #![tactic(auto)]
 
 ghost use Rattle.std.specs.Prelude.{◌≡◌};
-ghost use Rattle.book.specs.Answers.{outcome};
+ghost use Rattle.book.specs.Answers.{carried_outcome};
 ghost use Rattle.book.specs.Calls.{step};
 
-use book::{Call, Month, Refusal};
+use book::{Call, Carried, Month, Refusal};
 
 // The answer to a call; a refused one leaves the book as it was.
 #[tactic(auto, unfolding(book::specs::Calls::step))]
-pub fn apply(month: &mut Month, call: Call) -> Result<u64, Refusal>
-    ensures { outcome result month.new ≡ step month.old call }
+pub fn apply(month: &mut Month, call: Call) -> Result<Carried, Refusal>
+    ensures { carried_outcome result month.new ≡ step month.old call }
 {
-    match call {
+    let number = match call {
         Call::Join { residence, fitness } => accounts::join(month, residence, fitness),
         Call::Deposit { account, amount } => accounts::deposit(month, account, amount),
         Call::Withdraw { account, amount } => accounts::withdraw(month, account, amount),
@@ -28,7 +28,7 @@ pub fn apply(month: &mut Month, call: Call) -> Result<u64, Refusal>
         Call::Retract { seller } => offers::retract(month, seller),
         Call::Take { buyer, seller } => pairing::take_offer(month, buyer, seller),
         Call::Day { price } => accounts::next_day(month, price),
-        Call::Close => closing::close(month),
+        Call::Close { budget } => return closing::close(month, budget),
         Call::Pay { number } => settlement::pay_match(month, number),
         Call::Measure {
             number,
@@ -43,5 +43,6 @@ pub fn apply(month: &mut Month, call: Call) -> Result<u64, Refusal>
             winner,
             proceeds,
         } => auction::auction(month, number, winner, proceeds),
-    }
+    };
+    Ok(Carried::Number(number?))
 }

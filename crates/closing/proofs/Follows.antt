@@ -1,9 +1,10 @@
 -- A book after pairings has what the code of Close asks of a book, and no fewer matches. Assumes nothing.
-use Rattle.std.specs.Prelude.{◌≡◌, refl, Bool, List, [], ◌∷◌, ℕ, ◌+◌, ◌≤◌}
+use Rattle.std.specs.Prelude.{◌≡◌, Bool, List, [], ◌∷◌, ℕ, ◌≤◌}
 use Rattle.std.proofs.Common.{◌∙◌, arith}
+use Rattle.book.specs.declared.tables.Pair.{Pair}
 use Rattle.book.specs.declared.tables.Book.{Book}
 use Rattle.book.specs.Pairing.{freeze, pair}
-use Rattle.book.specs.Closing.{Pair, pair_all}
+use Rattle.book.specs.Closing.{pair_all}
 use Rattle.book.specs.Lists.{Reached}
 use Rattle.reached.specs.Needs.{calls}
 use Rattle.book.proofs.laws.Counting.{by_pick}
@@ -25,10 +26,6 @@ pub then : {b e d : Book} → Follows b e → Follows e d → Follows b d
 then f g = record { ready = λ r. g.ready (f.ready r); accounts = g.accounts ∙ f.accounts; more = omega (arith, f.more, g.more) }
 
 module _ (b : Book) (c : Bool) (days buyer seller u : ℕ) where
-  pub pair_adds : (pair b c days buyer seller u).match_count ≡ b.match_count + 1
-  unfolding pair freeze
-  pair_adds = by_pick (λ (e : Book). e.match_count ≡ b.match_count + 1) b.board (λ q. refl) (λ q. refl)
-
   pub pair_follows : Follows b (pair b c days buyer seller u)
   unfolding pair freeze
   pair_follows = by_pick (Follows b) b.board (λ q. omega arith) (λ q. omega arith)

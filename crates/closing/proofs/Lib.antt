@@ -4,5 +4,8 @@ pub mod Inserting
 pub mod Joins
 pub mod Follows
 pub mod Walks
-pub mod Second
+pub mod Paired
+pub mod Drafting
+pub mod Grouping
+pub mod Planning
 pub mod Passes

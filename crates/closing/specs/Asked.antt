@@ -1,14 +1,15 @@
 -- What the functions of Close ask and answer. Assumes nothing.
-use Rattle.std.specs.Prelude.{◌≡◌, List, [], ◌∷◌, map, ℕ, ◌+◌, ◌≤◌, ◌<◌, get_or, eqb, Option, Some, None}
+use Rattle.std.specs.Prelude.{◌≡◌, Bool, List, [], ◌∷◌, map, ℕ, ◌+◌, ◌≤◌, ◌<◌, length, get_or, set, eqb, Option, Some, None}
 use Rattle.coal.specs.Choice.{pick}
 use Rattle.book.specs.declared.accounts.Account.{Account}
 use Rattle.book.specs.declared.accounts.Side.{Side}
 use Rattle.book.specs.declared.tables.Book.{Book}
 use Rattle.book.specs.declared.tables.Listed.{Listed}
-use Rattle.book.specs.Counting.{those}
-use Rattle.book.specs.Rows.{is_on, bonded_only, with_offer}
+use Rattle.book.specs.declared.tables.Pair.{Pair}
+use Rattle.book.specs.Counting.{All, those}
+use Rattle.book.specs.Rows.{blank_account, is_on, bonded_only, any_class, with_offer, units_off}
 use Rattle.book.specs.Tables.{account_at, free_receipts}
-use Rattle.book.specs.Closing.{with_units}
+use Rattle.book.specs.Closing.{pair_all}
 use Rattle.closing.specs.declared.Queue.{Queue}
 use Rattle.book.proofs.laws.Walking.{left_of}
 
@@ -19,9 +20,20 @@ pub record Ready (b : Book) : Type 0 where
   pub accounts_few : b.account_count ≤ 32
   pub receipts_few : b.receipt_count ≤ 256
 
--- the accounts on a side, by number, with their units: `buyers` and `sellers`
-unfoldable pub on_side : Book → Side → List Listed
-on_side b s = map (with_units b) (those b.account_count 0 (λ k. is_on s (account_at b k).side))
+-- account k of a table, listed with its units
+abbrev pub listed_at : List Account → ℕ → Listed
+listed_at l k = record { account = k; left = (get_or l k blank_account).units; day = 0 }
+
+-- those of a table's accounts that are on a side, by number, with their units: `buyers` and `sellers`
+unfoldable pub on_side : List Account → Side → List Listed
+on_side l s = map (listed_at l) (those (length l) 0 (λ k. is_on s (get_or l k blank_account).side))
+
+-- whether account k is on a side, and its units there
+abbrev pub is_on_side : Book → Side → ℕ → Bool
+is_on_side b s k = is_on s (account_at b k).side
+
+abbrev pub units_on : Book → Side → ℕ → ℕ
+units_on b s k = pick (is_on_side b s k) (account_at b k).units 0
 
 -- the free bonded receipts of each account
 pub record Bonded (b : Book) (r : List ℕ) : Type 0 where
@@ -30,6 +42,22 @@ pub record Bonded (b : Book) (r : List ℕ) : Type 0 where
 -- it is the number of a cell
 abbrev pub There : Listed → Type 0
 There x = x.account < 32
+
+-- both are
+abbrev pub Ends : Pair → Type 0
+Ends p = (p.buyer < 32) × (p.seller < 32)
+
+-- "takes the units off both sides"
+abbrev pub both_off : List Account → ℕ → ℕ → ℕ → List Account
+both_off l buyer seller u =
+    let once = set l buyer (units_off (get_or l buyer blank_account) u) in
+    set once seller (units_off (get_or once seller blank_account) u)
+
+-- these pairs, and these accounts, are what makes book e of book b
+pub record Drafts (b : Book) (ps : List Pair) (l : List Account) (e : Book) : Type 0 where
+  pub pairs : pair_all any_class ps b ≡ e
+  pub accounts : l ≡ e.accounts
+  pub there : All Ends ps
 
 -- no account is listed with more units than it may have
 abbrev pub Small : List Listed → Type 0

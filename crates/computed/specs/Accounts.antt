@@ -1,7 +1,7 @@
 -- Join, Deposit, Withdraw, Trade and Day, with their refusals from both sides: 1, 5 to 11. Assumes nothing.
 use Rattle.std.specs.Prelude.{◌≡◌, refl, List, [], ◌∷◌, pos}
 use Rattle.book.specs.declared.calls.Call.{Call}
-use Rattle.computed.specs.Script.{Line, line, ok, no, play, account, matched, fund, ledger_after, sums_after}
+use Rattle.computed.specs.Script.{Line, line, ok, closed, no, play, account, matched, fund, ledger_after, sums_after}
 
 abbrev script : List Line
 script =
@@ -37,9 +37,9 @@ script =
     ∷ line (Call.Trade 0 1 999) (ok 0)
     ∷ line (Call.Trade 2 1 1) (no 10)
     ∷ line (Call.Trade 0 2 1) (no 10)
-    ∷ line Call.Close (ok 1)
+    ∷ line (Call.Close 0) (closed 1 0 0)
     ∷ line (Call.Trade 0 1 1) (no 5)
-    ∷ line Call.Close (no 5)
+    ∷ line (Call.Close 0) (no 5)
     ∷ line (Call.Offer 1 1) (no 5)
     ∷ line (Call.Retract 1) (no 5)
     ∷ line (Call.Take 0 1) (no 5)

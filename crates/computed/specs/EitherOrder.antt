@@ -8,7 +8,7 @@ use Rattle.book.specs.Tables.{match_at}
 use Rattle.book.specs.Calls.{step}
 use Rattle.book.specs.Lists.{after}
 use Rattle.book.specs.EitherOrder.{EitherOrder}
-use Rattle.computed.specs.Script.{Line, line, ok, no, owes, calls, play, book_of, Row, account, receipt, matched, fund, ledger_after}
+use Rattle.computed.specs.Script.{Line, line, ok, closed, no, owes, calls, play, book_of, Row, account, receipt, matched, fund, ledger_after}
 
 -- ---- five matches with no account in common, each of one unit, worth 100 fen
 
@@ -36,7 +36,7 @@ paired =
     ∷ line (Call.Trade 4 5 1) (ok 0)
     ∷ line (Call.Trade 6 7 1) (ok 0)
     ∷ line (Call.Trade 8 9 1) (ok 0)
-    ∷ line Call.Close (ok 5)
+    ∷ line (Call.Close 0) (closed 5 0 0)
     ∷ line (Call.Day 100) (ok 1)
     ∷ []
 
@@ -119,7 +119,7 @@ shared =
     ∷ line (Call.Lodge 2 0) (ok 1)
     ∷ line (Call.Trade 0 1 1) (ok 0)
     ∷ line (Call.Trade 0 2 1) (ok 0)
-    ∷ line Call.Close (ok 2)
+    ∷ line (Call.Close 0) (closed 2 0 0)
     ∷ line (Call.Day 100) (ok 1)
     ∷ []
 

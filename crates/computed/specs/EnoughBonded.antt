@@ -1,7 +1,7 @@
 -- A first pass with more bonded receipts than overseas units: every overseas buyer is filled, ties in day go by number. Assumes nothing.
 use Rattle.std.specs.Prelude.{◌≡◌, refl, List, [], ◌∷◌, ◌++◌, pos}
 use Rattle.book.specs.declared.calls.Call.{Call}
-use Rattle.computed.specs.Script.{Line, line, ok, play, account, receipt, matched, fund, ledger_after, sums_after, given_by_close}
+use Rattle.computed.specs.Script.{Line, line, ok, closed, play, account, receipt, matched, fund, ledger_after, sums_after, given_by_close}
 
 -- what comes before Close
 abbrev front : List Line
@@ -24,7 +24,7 @@ front =
 abbrev script : List Line
 script =
     front
-    ++ line Call.Close (ok 3)
+    ++ line (Call.Close 0) (closed 0 0 0)
     ∷ []
 
 answers : play 0 1 10 100 script ≡ script

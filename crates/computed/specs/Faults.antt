@@ -1,7 +1,7 @@
 -- Pay in a receipts book with every pair of faults: no fault, unfit, default, of the buyer and of the seller. Assumes nothing.
 use Rattle.std.specs.Prelude.{◌≡◌, refl, List, [], ◌∷◌, ◌++◌, ℕ, ℤ, pos}
 use Rattle.book.specs.declared.calls.Call.{Call}
-use Rattle.computed.specs.Script.{Line, line, ok, no, each, Row, play, owes, account, receipt, matched, fund, ledger_after, sums_after}
+use Rattle.computed.specs.Script.{Line, line, ok, closed, no, each, Row, play, owes, account, receipt, matched, fund, ledger_after, sums_after}
 
 -- ---- what BoardFaults has too
 
@@ -21,7 +21,7 @@ joined =
 
 -- their nine matches, paid or ended on the next day
 abbrev pub paid : List Line
-paid = line Call.Close (ok 9) ∷ line (Call.Pay 0) (no 23) ∷ line (Call.Day 900) (ok 1) ∷ each 9 0 (λ j. line (Call.Pay j) (ok 0))
+paid = line (Call.Close 0) (closed 9 0 0) ∷ line (Call.Pay 0) (no 23) ∷ line (Call.Day 900) (ok 1) ∷ each 9 0 (λ j. line (Call.Pay j) (ok 0))
 
 -- the accounts of the eight matches with a fault, those matches and the fund
 abbrev pub punished : List Row

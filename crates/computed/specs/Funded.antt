@@ -2,7 +2,7 @@
 -- pays 80%, down, of the price of the match's day. Assumes nothing.
 use Rattle.std.specs.Prelude.{◌≡◌, refl, List, [], ◌∷◌, ◌++◌, pos}
 use Rattle.book.specs.declared.calls.Call.{Call}
-use Rattle.computed.specs.Script.{Line, line, ok, no, play, account, receipt, matched, fund, ledger_after, sums_after}
+use Rattle.computed.specs.Script.{Line, line, ok, closed, no, play, account, receipt, matched, fund, ledger_after, sums_after}
 
 -- both matches are paid
 abbrev morning : List Line
@@ -18,7 +18,7 @@ morning =
     ∷ line (Call.Lodge 0 0) (ok 1)
     ∷ line (Call.Lodge 0 0) (ok 2)
     ∷ line (Call.Lodge 0 1) (ok 3)
-    ∷ line Call.Close (ok 2)
+    ∷ line (Call.Close 0) (closed 1 0 0)
     ∷ line (Call.HandOver 0) (no 22)
     ∷ line (Call.HandOver 2) (no 21)
     ∷ line (Call.Pay 0) (no 23)

@@ -1,7 +1,7 @@
 -- A match keeps the heat that its seller had declared at pairing: a later Declare cures nothing, and cash equal to V is no fault. Assumes nothing.
 use Rattle.std.specs.Prelude.{◌≡◌, refl, List, [], ◌∷◌, pos}
 use Rattle.book.specs.declared.calls.Call.{Call}
-use Rattle.computed.specs.Script.{Line, line, ok, no, play, owes, account, matched, fund, ledger_after, sums_after}
+use Rattle.computed.specs.Script.{Line, line, ok, closed, no, play, owes, account, matched, fund, ledger_after, sums_after}
 
 abbrev script : List Line
 script =
@@ -11,7 +11,7 @@ script =
     ∷ line (Call.Trade 1 0 1) (ok 0)
     ∷ line (Call.Trade 1 2 2) (ok 0)
     ∷ line (Call.Declare 2 5_500) (ok 0)
-    ∷ line Call.Close (ok 2)
+    ∷ line (Call.Close 0) (closed 2 0 0)
     ∷ line (Call.Declare 0 5_500) (ok 0)
     ∷ line (Call.Deposit 1 240) (ok 0)
     ∷ line (Call.Day 80) (ok 1)

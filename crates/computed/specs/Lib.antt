@@ -18,6 +18,7 @@ pub mod Measured
 pub mod Over
 pub mod Vessels
 pub mod EitherOrder
+pub mod FewestPairs
 pub mod OtherMachines
 pub mod Halves
 pub mod Deductions

@@ -8,7 +8,7 @@ use Rattle.book.specs.Tables.{account_at}
 use Rattle.book.specs.Calls.{step}
 use Rattle.book.specs.Lists.{after}
 use Rattle.book.specs.Demand3.{counts_for, lot_gave}
-use Rattle.computed.specs.Script.{Line, line, ok, no, calls, book_of, play, account, receipt, matched, fund, ledger_after, given_by_close}
+use Rattle.computed.specs.Script.{Line, line, ok, closed, no, calls, book_of, play, account, receipt, matched, fund, ledger_after, given_by_close}
 
 -- what comes before Close
 abbrev front : List Line
@@ -46,8 +46,8 @@ front =
 abbrev script : List Line
 script =
     front
-    ++ line Call.Close (ok 5)
-    ∷ line Call.Close (no 5)
+    ++ line (Call.Close 0) (closed 2 0 0)
+    ∷ line (Call.Close 0) (no 5)
     ∷ []
 
 answers : play 0 1 10 100 script ≡ script
@@ -92,6 +92,6 @@ unfolding given_by_close
 given = refl
 
 -- what the first pass gave each lot of the two overseas buyers
-by_lot : let b = after (book_of 0 1 10 100) (calls front) in let e = (step b Call.Close).book in map (lot_gave b e 0) (0 ∷ 1 ∷ 2 ∷ 3 ∷ []) ++ map (lot_gave b e 1) (0 ∷ 1 ∷ 2 ∷ 3 ∷ []) ≡ 2 ∷ 1 ∷ 1 ∷ 0 ∷ 0 ∷ 0 ∷ 0 ∷ 2 ∷ []
+by_lot : let b = after (book_of 0 1 10 100) (calls front) in let e = (step b (Call.Close 0)).book in map (lot_gave b e 0) (0 ∷ 1 ∷ 2 ∷ 3 ∷ []) ++ map (lot_gave b e 1) (0 ∷ 1 ∷ 2 ∷ 3 ∷ []) ≡ 2 ∷ 1 ∷ 1 ∷ 0 ∷ 0 ∷ 0 ∷ 0 ∷ 2 ∷ []
 unfolding play after given_by_close counts_for
 by_lot = refl

@@ -1,7 +1,7 @@
 -- The first pass takes lots of overseas buyers by day, then account number, and gives bonded receipts only. Assumes nothing.
 use Rattle.std.specs.Prelude.{◌≡◌, refl, List, [], ◌∷◌, ◌++◌, pos}
 use Rattle.book.specs.declared.calls.Call.{Call}
-use Rattle.computed.specs.Script.{Line, line, ok, no, play, account, receipt, matched, fund, ledger_after, sums_after, given_by_close}
+use Rattle.computed.specs.Script.{Line, line, ok, closed, no, play, account, receipt, matched, fund, ledger_after, sums_after, given_by_close}
 
 -- what comes before Close
 abbrev front : List Line
@@ -30,8 +30,8 @@ front =
 abbrev script : List Line
 script =
     front
-    ++ line Call.Close (ok 6)
-    ∷ line Call.Close (no 5)
+    ++ line (Call.Close 0) (closed 3 0 0)
+    ∷ line (Call.Close 0) (no 5)
     ∷ []
 
 answers : play 0 1 10 100 script ≡ script

@@ -105,6 +105,7 @@ still_paired_reaches = refl
 
 abbrev carried : Answer → ℕ
 carried (Answer.Accepted n) = n
+carried (Answer.Closed pairs tests gap) = pairs
 carried (Answer.Refused n) = 0
 
 first_answer_breaks : InEitherOrder still_paired → ⊥

@@ -15,6 +15,7 @@ use Rattle.book.specs.Accounts as accounts
 use Rattle.book.specs.Receipts as receipts
 use Rattle.book.specs.Pairing as pairing
 use Rattle.book.specs.Offers as offers
+use Rattle.book.specs.Masks as masks
 use Rattle.book.specs.Closing as closing
 use Rattle.book.specs.Settlement as settlement
 use Rattle.book.specs.Calls.{step}
@@ -26,6 +27,10 @@ use Rattle.book.specs.Demand3.{gave, gave_out, overseas_units_open, bonded_units
 
 abbrev pub ok : ℕ → Answer
 ok n = Answer.Accepted n
+
+-- "`ok pairs tests gap`", of a Close
+abbrev pub closed : ℕ → ℕ → ℕ → Answer
+closed pairs tests gap = Answer.Closed pairs tests gap
 
 abbrev pub no : ℕ → Answer
 no n = Answer.Refused n
@@ -105,7 +110,9 @@ unfolding
     accounts.join accounts.deposit accounts.withdraw accounts.trade receipts.lodge receipts.strike pairing.freeze_turn pairing.freeze pairing.pair
     offers.declare offers.offer offers.retract offers.take_offer
     closing.walk closing.join_pair closing.joined closing.pair_all closing.insert_by_day closing.insert_lots closing.lots_in_order closing.overseas_lots closing.bonded_sellers closing.buyers closing.sellers closing.first_pass
-    closing.equal_seller closing.second_turn closing.second_pass closing.third_pass closing.all_passes closing.lapse_turn closing.lapse_offers closing.close
+    closing.equal_seller closing.second_turn closing.second_pass closing.third_pass closing.old_passes
+    masks.members masks.added masks.balanced_masks masks.choose masks.united closing.remaining closing.longs closing.shorts closing.tests closing.chosen
+    closing.walk_of closing.walk_each closing.plan closing.planned closing.later_passes closing.pairs closing.gap closing.all_passes closing.lapse_turn closing.lapse_offers closing.close
     settlement.value settlement.seller_fault settlement.buyer_fault settlement.penalty settlement.punish settlement.release_turn settlement.free_again
     settlement.pass_turn settlement.pass_receipts settlement.into_held settlement.fault_ended settlement.paid settlement.pay_match settlement.handed settlement.hand_over
     settlement.to_auction settlement.paid_stage settlement.sold settlement.unsold settlement.auctioned settlement.auction tables.ordinary_at tables.ordinary_receipts
@@ -155,5 +162,5 @@ unfoldable pub given_by_close : ℕ → ℕ → ℕ → ℕ → List Line → Gi
 unfolding play after gave gave_out overseas_units_open bonded_units_offered
 given_by_close kind t r p ls =
     let b = after (book_of kind t r p) (calls ls) in
-    let e = (step b Call.Close).book in
+    let e = (step b (Call.Close 0)).book in
     record { wanted = overseas_units_open b; offered = bonded_units_offered b; out = gave_out b e; to_each = each b.account_count 0 (gave b e) }

@@ -1,7 +1,7 @@
 -- Close in its three passes: bonded receipts to overseas buyers, equal units, what is left. Assumes nothing.
 use Rattle.std.specs.Prelude.{◌≡◌, refl, List, [], ◌∷◌, ◌++◌, pos}
 use Rattle.book.specs.declared.calls.Call.{Call}
-use Rattle.computed.specs.Script.{Line, line, ok, no, play, owes, account, receipt, matched, fund, ledger_after, sums_after, given_by_close}
+use Rattle.computed.specs.Script.{Line, line, ok, closed, no, play, owes, account, receipt, matched, fund, ledger_after, sums_after, given_by_close}
 
 -- what comes before Close
 abbrev front : List Line
@@ -30,7 +30,7 @@ front =
 abbrev script : List Line
 script =
     front
-    ++ line Call.Close (ok 6)
+    ++ line (Call.Close 0) (closed 3 0 0)
     ∷ line (Call.Day 5) (ok 2)
     ∷ line (Call.Pay 0) (ok 0)
     ∷ line (Call.Pay 1) (ok 0)

@@ -1,7 +1,7 @@
 -- The worked session of document 01, with document 02's Hand over as its last line: its answers and its ledger. Assumes nothing.
 use Rattle.std.specs.Prelude.{◌≡◌, refl, List, [], ◌∷◌, ◌++◌, pos}
 use Rattle.book.specs.declared.calls.Call.{Call}
-use Rattle.computed.specs.Script.{Line, line, ok, play, account, receipt, matched, fund, ledger_after, sums_after, given_by_close}
+use Rattle.computed.specs.Script.{Line, line, ok, closed, play, account, receipt, matched, fund, ledger_after, sums_after, given_by_close}
 
 -- what comes before Close
 abbrev front : List Line
@@ -17,7 +17,7 @@ front =
 abbrev script : List Line
 script =
     front
-    ++ line Call.Close (ok 2)
+    ++ line (Call.Close 0) (closed 1 0 0)
     ∷ line (Call.Day 610_000) (ok 1)
     ∷ line (Call.Pay 0) (ok 0)
     ∷ line (Call.HandOver 0) (ok 0)

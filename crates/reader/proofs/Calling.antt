@@ -19,12 +19,11 @@ use Rattle.reader.specs.Lines.{bad, call_of, line_of, opening_of, opening_line_o
 -- the call, or the opening, that n numbers are
 abbrev pub call_by : List ℕ → ℕ → Result Call BadLine
 call_by l n =
-    pick (eqb n 1) (pick (eqb (get_or l 0 0) 12) (Ok Call.Close) bad)
-    (pick (eqb n 2) (one_argument (get_or l 0 0) (get_or l 1 0))
+    pick (eqb n 2) (one_argument (get_or l 0 0) (get_or l 1 0))
     (pick (eqb n 3) (two_arguments (get_or l 0 0) (get_or l 1 0) (get_or l 2 0))
     (pick (eqb n 4) (three_arguments (get_or l 0 0) (get_or l 1 0) (get_or l 2 0) (get_or l 3 0))
     (pick (eqb n 9) (pick (eqb (get_or l 0 0) 14) (Ok (Call.Measure (get_or l 1 0) (sample (get_or l 2 0) (get_or l 3 0) (get_or l 4 0) (get_or l 5 0) (get_or l 6 0) (get_or l 7 0)) (get_or l 8 0))) bad)
-    bad))))
+    bad)))
 
 abbrev pub opening_by : List ℕ → ℕ → Result Opening BadLine
 opening_by l n = pick (eqb n 5) (pick (eqb (get_or l 0 0) 0) (Ok (record { kind = get_or l 1 0; tonnes = get_or l 2 0; rate = get_or l 3 0; price = get_or l 4 0 })) bad) bad

@@ -24,8 +24,8 @@ either k c rest r = by_pick (Reads (k ∷ arguments c)) (eqb k (call_number c)) 
 reads : (ns : List ℕ) → Reads ns (call_of ns)
 unfolding call_of
 reads [] = tt
-reads (k ∷ []) = either k Call.Close _ tt
-reads (k ∷ x ∷ []) = either k (Call.Retract x) _ (either k (Call.Day x) _ (either k (Call.Pay x) _ (either k (Call.Invoice x) _ (either k (Call.HandOver x) _ tt))))
+reads (k ∷ []) = tt
+reads (k ∷ x ∷ []) = either k (Call.Retract x) _ (either k (Call.Day x) _ (either k (Call.Close x) _ (either k (Call.Pay x) _ (either k (Call.Invoice x) _ (either k (Call.HandOver x) _ tt)))))
 reads (k ∷ x ∷ y ∷ []) =
     either k (Call.Join x y) _
     (either k (Call.Deposit x y) _
@@ -59,7 +59,7 @@ reads_back (Call.Offer x y) = refl
 reads_back (Call.Retract x) = refl
 reads_back (Call.Take x y) = refl
 reads_back (Call.Day x) = refl
-reads_back Call.Close = refl
+reads_back (Call.Close x) = refl
 reads_back (Call.Pay x) = refl
 reads_back (Call.Measure j x d) = refl
 reads_back (Call.Invoice x) = refl

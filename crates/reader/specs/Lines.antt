@@ -25,7 +25,7 @@ line_length [] = 0
 line_length (b ∷ s) = pick (eqb b 10) 1 (line_length s + 1)
 
 -- ---- a line that is a call: "call number 1 to 16, then just its arguments in the order above"; "Lists and sessions may hold call 17";
--- "A list of calls or a session may now hold this one", call 18; "Measure now names the due kilograms of the vessel as well, as its last argument."
+-- "A list of calls or a session may now hold this one", call 18; "Measure now names the due kilograms of the vessel as well, as its last argument."; "Close takes a budget"
 
 abbrev pub arguments : Call → List ℕ
 arguments (Call.Join residence fitness) = residence ∷ fitness ∷ []
@@ -39,7 +39,7 @@ arguments (Call.Offer seller u) = seller ∷ u ∷ []
 arguments (Call.Retract seller) = seller ∷ []
 arguments (Call.Take buyer seller) = buyer ∷ seller ∷ []
 arguments (Call.Day p) = p ∷ []
-arguments Call.Close = []
+arguments (Call.Close budget) = budget ∷ []
 arguments (Call.Pay j) = j ∷ []
 arguments (Call.Measure j x d) = j ∷ x.weight ∷ x.quality.heat ∷ x.moisture ∷ x.quality.sulphur ∷ x.quality.volatiles ∷ x.quality.ash ∷ d ∷ []
 arguments (Call.Invoice j) = j ∷ []
@@ -55,10 +55,11 @@ abbrev pub one_argument : ℕ → ℕ → Result Call BadLine
 one_argument k x =
     pick (eqb k 9) (Ok (Call.Retract x))
     (pick (eqb k 11) (Ok (Call.Day x))
+    (pick (eqb k 12) (Ok (Call.Close x))
     (pick (eqb k 13) (Ok (Call.Pay x))
     (pick (eqb k 15) (Ok (Call.Invoice x))
     (pick (eqb k 17) (Ok (Call.HandOver x))
-    bad))))
+    bad)))))
 
 abbrev pub two_arguments : ℕ → ℕ → ℕ → Result Call BadLine
 two_arguments k x y =
@@ -82,7 +83,7 @@ three_arguments k x y z =
 -- the call that a line's numbers are; "0 later is 26"
 unfoldable pub call_of : List ℕ → Result Call BadLine
 call_of [] = bad
-call_of (k ∷ []) = pick (eqb k 12) (Ok Call.Close) bad
+call_of (k ∷ []) = bad
 call_of (k ∷ x ∷ []) = one_argument k x
 call_of (k ∷ x ∷ y ∷ []) = two_arguments k x y
 call_of (k ∷ x ∷ y ∷ z ∷ []) = three_arguments k x y z

@@ -63,7 +63,7 @@ fn call_of(numbers: &[u64]) -> Result<Call, BadLine>
         [9, seller] => Ok(Call::Retract { seller }),
         [10, buyer, seller] => Ok(Call::Take { buyer, seller }),
         [11, price] => Ok(Call::Day { price }),
-        [12] => Ok(Call::Close),
+        [12, budget] => Ok(Call::Close { budget }),
         [13, number] => Ok(Call::Pay { number }),
         [
             14,

@@ -2,18 +2,18 @@
 #![tactic(auto)]
 
 ghost use Rattle.std.specs.Prelude.{◌≡◌, ◌+◌, ◌*◌, ◌≤◌, length};
-ghost use Rattle.book.specs.Answers.{outcome};
+ghost use Rattle.book.specs.Answers.{carried_outcome};
 ghost use Rattle.book.specs.Lists.{after};
 ghost use Rattle.reader.specs.Lines.{lines, line_of};
 ghost use Rattle.text.specs.Printer.{HasRoom, Prints};
 ghost use Rattle.running.specs.Later.{reply, answers, calls_of};
 
-use book::{Month, Refusal};
+use book::{Carried, Month, Refusal};
 use text::Printer;
 
 // The answer to a line: its call is made; "26 a line not of the form" leaves the book as it was.
-fn reply(month: &mut Month, line: &[u8]) -> Result<u64, Refusal>
-    ensures { outcome result month.new ≡ reply month.old (line_of line.now) }
+fn reply(month: &mut Month, line: &[u8]) -> Result<Carried, Refusal>
+    ensures { carried_outcome result month.new ≡ reply month.old (line_of line.now) }
 {
     // Taken apart by `let .. else`, as document 01 names the form.
     let Ok(call) = reader::read_line(line) else {

@@ -5,10 +5,8 @@ use Rattle.std.proofs.Math.Seq.{take-length}
 use mathlib.Core.Bool.{true≢false}
 use Rattle.heats.specs.HeatTables.{IsHeatTable}
 use Rattle.book.specs.declared.tables.Book.{Book}
-use Rattle.book.specs.declared.calls.Call.{Call}
 use Rattle.book.specs.Outcomes.{Answer, Outcome}
 use Rattle.book.specs.Answers.{refuse, accept, is_accepted}
-use Rattle.book.specs.Calls.{step}
 use Rattle.book.specs.Opening.{opening, no_book}
 use Rattle.book.specs.Lists.{Reached, opened as reached-opening, after}
 use Rattle.book.specs.Demand3.{Holds}

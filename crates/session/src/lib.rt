@@ -12,7 +12,7 @@ ghost use Rattle.text.specs.Printer.{HasRoom, Prints};
 ghost use Rattle.session.specs.Session.{line_one, later, session, outcome, room, Delivered};
 ghost use Rattle.session.specs.Paging.{lent_count, Paged};
 
-use book::{Month, Refusal};
+use book::{Carried, Month, Refusal};
 use heats::HeatTable;
 use text::Printer;
 
@@ -45,7 +45,7 @@ fn print_session(printer: &mut Printer, heats: &HeatTable, input: &[u8])
 {
     match line_one(heats, input) {
         Ok(mut month) => {
-            printer.answer(Ok(0));
+            printer.answer(Ok(Carried::Number(0)));
             running::print_run(&mut month, later_lines(input), printer);
             text::print_ledger(printer, &month.book);
         }

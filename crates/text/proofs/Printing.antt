@@ -3,7 +3,7 @@ use Prim.Native.Nat.{ℕ, zero, suc, ◌+◌, ◌-◌, ◌*◌, ◌^◌, ◌/◌
 use native.Mathlib.Omega.{arith}
 use native.Mathlib.Nat.{pow-suc}
 use native.Mathlib.Numerals.{add-one}
-use mathlib.Core.Path.{◌≡◌, refl, sym, ◌∙◌}
+use mathlib.Core.Path.{◌≡◌, refl, sym, ap, ◌∙◌}
 use mathlib.Core.List.{List, [], ◌∷◌, ◌++◌, append_assoc, append-nil}
 use lib.Dec.{ltb}
 use borrow.Rule.Slice.PartMut.{put_mid}
@@ -16,7 +16,9 @@ use Rattle.std.proofs.lemmas.Fmt.{decimal_by_steps}
 use Rattle.std.specs.Fmt.{decimal}
 use Rattle.coal.specs.Choice.{pick}
 use Rattle.book.proofs.laws.Counting.{by_pick}
-use Rattle.text.specs.Print.{Put, last_digits, digits, spaced}
+use Rattle.book.specs.Outcomes.{Answer}
+use Rattle.text.specs.Text.{bytes}
+use Rattle.text.specs.Print.{Put, last_digits, digits, spaced, answer_line}
 use Rattle.text.specs.declared.print.Printer.{Printer}
 use Rattle.text.specs.Printer.{Prints}
 use Rattle.text.specs.Ledger.{each}
@@ -52,6 +54,16 @@ prints_then p q = record { same = q.same ∙ p.same; long = q.long ∙ p.long; p
 pub prints_none : (a : Printer) → Prints a a []
 prints_none a = record { same = refl; long = refl; put = put_none a.out.now a.at }
 
+-- the line of an answer of three numbers, piece by piece
+pub closed_line : (p t g : ℕ) → answer_line (Answer.Closed p t g) ≡ bytes "ok" ++ ((32 ∷ digits p) ++ ((32 ∷ digits t) ++ ((32 ∷ digits g) ++ 10 ∷ [])))
+unfolding spaced
+closed_line p t g =
+    let x = 32 ∷ digits p in
+    let y = 32 ∷ digits t in
+    let z = 32 ∷ digits g in
+    let end : (z ++ []) ++ 10 ∷ [] ≡ z ++ 10 ∷ [] = ap (λ (l : List ℕ). l ++ 10 ∷ []) (append-nil z) in
+    ap (bytes "ok" ++◌) (append_assoc x (y ++ (z ++ [])) (10 ∷ []) ∙ ap (x ++◌) (append_assoc y (z ++ []) (10 ∷ []) ∙ ap (y ++◌) end))
+
 -- ---- digits
 
 -- how many digits are asked for does not matter, where they are enough
@@ -80,6 +92,9 @@ digits_short (suc k) n h =
 
 pub digits_64 : (n : ℕ) → n < 2 ^ 64 → length (digits n) ≤ 20
 digits_64 n h = digits_short 19 n (omega arith)
+
+pub digits_16 : (n : ℕ) → n < 2 ^ 16 → length (digits n) ≤ 5
+digits_16 n h = digits_short 4 n (omega arith)
 
 pub digits_small : (n : ℕ) → n < 10 → digits n ≡ (48 + n % 10) ∷ []
 digits_small n h = rw (digits_step n, lt-ltb n 10 h) refl

@@ -46,7 +46,7 @@ ledger_printed : ledger worked ≡ bytes "accounts 2\n0 2400000 0 0\n1 4000000 0
 unfolding digits last_digits spaced each account_row receipt_row match_row ledger worked paired
 ledger_printed = refl
 
-answers_printed : map answer_line (Answer.Accepted 2 ∷ Answer.Refused 26 ∷ []) ≡ bytes "ok 2\n" ∷ bytes "no 26\n" ∷ []
+answers_printed : map answer_line (Answer.Accepted 2 ∷ Answer.Closed 1 1_023 0 ∷ Answer.Refused 26 ∷ []) ≡ bytes "ok 2\n" ∷ bytes "ok 1 1023 0\n" ∷ bytes "no 26\n" ∷ []
 unfolding digits last_digits spaced
 answers_printed = refl
 

@@ -1,10 +1,11 @@
 // A printer writes bytes, numbers and answers into a lent buffer. No `write!`: std's formatting promises its bytes only on `Ok`, and never that it ends in `Ok`; these are written wherever there is room.
 ghost use Rattle.std.specs.Prelude.{◌≡◌, ◌∷◌, [], ◌++◌, ◌+◌, ◌*◌, ◌≤◌, ◌%◌, length};
-ghost use Rattle.book.specs.Answers.{answer_of};
+ghost use Rattle.book.specs.Outcomes.{Answer};
+ghost use Rattle.book.specs.Answers.{carried_answer};
 ghost use Rattle.text.specs.Print.{digits, signed, rest_of_line, answer_line};
 ghost use Rattle.text.specs.Ledger.{heading};
 
-use book::Refusal;
+use book::{Carried, Refusal};
 
 // A lent buffer, and the place up to which it is written.
 #[derive(Drop)]
@@ -127,14 +128,39 @@ impl<'a> Printer<'a> {
         self.rest(&[n]);
     }
 
-    // `ok n` or `no n`.
-    pub fn answer(&mut self, answer: Result<u64, Refusal>)
+    // A space and a number of at most five digits.
+    #[tactic(auto, using(crate::proofs::Printing::digits_16))]
+    fn next_small(&mut self, n: u16)
+        requires { HasRoom self.old 6 }
+        ensures printed { Prints self.old self.new ((32 ∷ []) ++ digits n) }
+        ensures few { self.new.at ≤ self.old.at + 6 }
+    {
+        self.byte(b' ');
+        self.digits(n as u64);
+    }
+
+    // `ok`, pairs, tests and gap, "printed in that order".
+    fn closed(&mut self, pairs: u16, tests: u16, gap: u16)
+        requires { HasRoom self.old 21 }
+        ensures printed { Prints self.old self.new (answer_line (Answer.Closed pairs tests gap)) }
+        ensures few { self.new.at ≤ self.old.at + 21 }
+    {
+        self.bytes(b"ok");
+        self.next_small(pairs);
+        self.next_small(tests);
+        self.next_small(gap);
+        self.byte(b'\n');
+    }
+
+    // `ok n` or `no n`; after Close `ok` and three numbers.
+    pub fn answer(&mut self, answer: Result<Carried, Refusal>)
         requires { HasRoom self.old 24 }
-        ensures printed { Prints self.old self.new (answer_line (answer_of answer)) }
+        ensures printed { Prints self.old self.new (answer_line (carried_answer answer)) }
         ensures few { self.new.at ≤ self.old.at + 24 }
     {
         match answer {
-            Ok(n) => self.heading(b"ok", n),
+            Ok(Carried::Number(n)) => self.heading(b"ok", n),
+            Ok(Carried::Closed { pairs, tests, gap }) => self.closed(pairs, tests, gap),
             Err(refusal) => self.heading(b"no", refusal.number()),
         }
     }

@@ -1,6 +1,6 @@
 -- The refusals of all eighteen calls, gone through once: a call is refused and leaves the book, or it is accepted, none of its conditions applies,
 -- and it leaves the book that its rule says. A law of single calls goes by cases on this. Assumes nothing.
-use Rattle.std.specs.Prelude.{◌≡◌, List, refl, Bool, true, false, not, ◌&&◌, ◌||◌, ℕ, ◌+◌, ◌-◌, ◌≤◌, ◌<◌, ltb, eqb, pos, Option, Some, None}
+use Rattle.std.specs.Prelude.{◌≡◌, List, refl, Bool, true, false, not, ◌&&◌, ◌||◌, ℕ, ◌+◌, ◌≤◌, ◌<◌, ltb, eqb, pos, Option, Some, None}
 use Rattle.std.proofs.Common.{sym, ap, ◌∙◌, arith, ltb-true, ltb-false, leb-false, eqb-true, eq-eqb}
 use Rattle.std.proofs.lemmas.Bool.{eqb-false, not-false}
 use Rattle.std.specs.Int.Signed.{lt_z}
@@ -9,13 +9,13 @@ use Rattle.book.specs.Rows.{needs_fifth, with_heat, with_offer, with_state, long
 use Rattle.coal.specs.Coal.{coal_weight}
 use Rattle.book.specs.Codes.{sample}
 use Rattle.book.specs.Tables.{account_at, receipt_at, match_at, add_account, add_receipt, put_account, put_receipt, with_deposited, with_day, with_open, pay, charge, free_receipts}
-use Rattle.book.specs.Answers.{refuse, refuse_if, accept, refusal_of}
+use Rattle.book.specs.Answers.{refuse, refuse_if, accept, accept_close, refusal_of}
 use Rattle.book.specs.Opening.{fresh, no_book, opening, next_day}
 use Rattle.book.specs.Accounts.{join, deposit, withdraw, new_account, trade, traded}
 use Rattle.book.specs.Receipts.{lodge, strike, new_receipt}
 use Rattle.book.specs.Pairing.{pair}
 use Rattle.book.specs.Offers.{declare, offer, retract, take_offer, end_offer}
-use Rattle.book.specs.Closing.{close, all_passes, lapse_offers}
+use Rattle.book.specs.Closing.{close, first_pass, pairs, tests, gap, all_passes, lapse_offers}
 use Rattle.book.specs.Settlement.{value, set_stage, pay_match, paid, buyer_fault, seller_fault, weight_due, vessel_amount, leaves_short, bad_due, loaded, measure, invoice, terminate, terminated, hand_over, handed, auction, auctioned}
 use Rattle.book.specs.Calls.{step}
 use Rattle.heats.specs.HeatTables.{IsHeatTable}
@@ -105,8 +105,9 @@ pub record MayDay (b : Book) (p : ℕ) : Type 0 where
   pub few : p ≤ 1_000_000
   pub early : b.day < 1_000
 
-pub record MayClose (b : Book) : Type 0 where
+pub record MayClose (b : Book) (budget : ℕ) : Type 0 where
   pub is_open : b.«open» ≡ true
+  pub few : budget ≤ 1_023
 
 pub record MayPay (b : Book) (j : ℕ) : Type 0 where
   pub there : j < b.match_count
@@ -168,7 +169,8 @@ pub data Answered (b : Book) : Call → Outcome → Type 0 where
   retracts : {seller : ℕ} → MayRetract b seller → Answered b (Call.Retract seller) (accept 0 (end_offer b seller))
   takes : {buyer seller : ℕ} → MayTake b buyer seller → Answered b (Call.Take buyer seller) (accept b.match_count (end_offer (pair b any_class 2 buyer seller (offer_units (account_at b seller).offer)) seller))
   days : {p : ℕ} → MayDay b p → Answered b (Call.Day p) (accept (b.day + 1) (with_day b p (b.day + 1)))
-  closes : MayClose b → Answered b Call.Close (accept ((all_passes b).match_count - b.match_count) (with_open (lapse_offers (all_passes b)) false))
+  closes : {budget : ℕ} → MayClose b budget
+      → Answered b (Call.Close budget) (accept_close (pairs (first_pass b) budget) (tests (first_pass b) budget) (gap (first_pass b) budget) (with_open (lapse_offers (all_passes b budget)) false))
   pays : {j : ℕ} → MayPay b j → Answered b (Call.Pay j) (accept 0 (paid b j (match_at b j) (buyer_fault b j) (seller_fault b j)))
   measures : {j w q m s f a d : ℕ} → MayMeasure b j w q m s f a d → Answered b (Call.Measure j (sample w q m s f a) d) (accept (coal_weight d w m).over (loaded b j (match_at b j) d (vessel_amount b (match_at b j) d w q m s f a)))
   invoices : {j : ℕ} → MayInvoice b j → Answered b (Call.Invoice j) (accept 0 (set_stage (pay b (match_at b j).seller (match_at b j).held) j 0 Stage.Closed))
@@ -268,28 +270,28 @@ declared_is h e m = impossible (cc (rw m at e))
 ruleset accepted = (joins, deposits, withdraws, trades, lodges, strikes, declares, offers, retracts, takes, days, closes, pays, measures, invoices, terminates, hands_over, auctions)
 
 -- test after test, the accepted answer behind them, and what each test that does not hold says
-ruleset tests = (test, refl, accepted, ltb-false, leb-false, eqb-true, eqb-false, not-false, both_not, flipped, paired_is, prepaid_is, held_is, funded_is, awaiting_is, free_is, missing_is, standing_is, declared_is, may_load)
+ruleset refusals = (test, refl, accepted, ltb-false, leb-false, eqb-true, eqb-false, not-false, both_not, flipped, paired_is, prepaid_is, held_is, funded_is, awaiting_is, free_is, missing_is, standing_is, declared_is, may_load)
 
 pub answered : (b : Book) (c : Call) → Answered b c (step b c)
 unfolding step join deposit withdraw trade lodge strike declare offer retract take_offer next_day close pay_match measure invoice terminate hand_over auction
-answered b (Call.Join residence fitness) = search tests depth 16
-answered b (Call.Deposit k x) = search tests depth 16
-answered b (Call.Withdraw k x) = search tests depth 16
-answered b (Call.Trade buyer seller u) = search tests depth 16
-answered b (Call.Lodge owner class) = search tests depth 16
-answered b (Call.Strike owner i) = search tests depth 16
-answered b (Call.Declare k h) = search tests depth 16
-answered b (Call.Offer seller u) = search tests depth 16
-answered b (Call.Retract seller) = search tests depth 16
-answered b (Call.Take buyer seller) = search tests depth 16
-answered b (Call.Day p) = search tests depth 16
-answered b Call.Close = search tests depth 16
-answered b (Call.Pay j) = search tests depth 16
-answered b (Call.Measure j x d) = search tests depth 16
-answered b (Call.Invoice j) = search tests depth 16
-answered b (Call.Terminate j party) = search tests depth 16
-answered b (Call.HandOver j) = search tests depth 16
-answered b (Call.Auction j winner x) = search tests depth 16
+answered b (Call.Join residence fitness) = search refusals depth 16
+answered b (Call.Deposit k x) = search refusals depth 16
+answered b (Call.Withdraw k x) = search refusals depth 16
+answered b (Call.Trade buyer seller u) = search refusals depth 16
+answered b (Call.Lodge owner class) = search refusals depth 16
+answered b (Call.Strike owner i) = search refusals depth 16
+answered b (Call.Declare k h) = search refusals depth 16
+answered b (Call.Offer seller u) = search refusals depth 16
+answered b (Call.Retract seller) = search refusals depth 16
+answered b (Call.Take buyer seller) = search refusals depth 16
+answered b (Call.Day p) = search refusals depth 16
+answered b (Call.Close budget) = search refusals depth 16
+answered b (Call.Pay j) = search refusals depth 16
+answered b (Call.Measure j x d) = search refusals depth 16
+answered b (Call.Invoice j) = search refusals depth 16
+answered b (Call.Terminate j party) = search refusals depth 16
+answered b (Call.HandOver j) = search refusals depth 16
+answered b (Call.Auction j winner x) = search refusals depth 16
 
 -- "A refusal is one number; the book is unchanged."
 refused_alone : {b : Book} {c : Call} {o : Outcome} → Answered b c o → (refusal_of o.answer ≡ 0 → ⊥) → refuse (refusal_of o.answer) b ≡ o

@@ -43,6 +43,7 @@ faultless_is (Some x) e = cc
 
 accepted_none : (a : Answer) → is_accepted a ≡ true → refusal_of a ≡ 0
 accepted_none (Answer.Accepted n) e = refl
+accepted_none (Answer.Closed p t g) e = refl
 accepted_none (Answer.Refused n) e = cc
 
 module _ (b : Book) (h : Reached b) (j : ℕ) (a : is_accepted (pay_match b j).answer ≡ true) (f : without_fault b j ≡ true) where

@@ -1,8 +1,8 @@
 -- The three passes of Close and the end of the offers: whatever every proper pairing keeps, the passes keep, and they make at most 125 matches.
 -- Assumes nothing.
-use Rattle.std.specs.Prelude.{◌≡◌, Bool, not, ◌&&◌, ℕ, zero, suc, ◌+◌, ◌-◌, ◌*◌, ◌≤◌, ◌<◌, min, get_or, Option, Some, None}
+use Rattle.std.specs.Prelude.{◌≡◌, ◌⊎◌, Bool, not, ◌&&◌, ℕ, zero, suc, ◌+◌, ◌-◌, ◌*◌, ◌≤◌, ◌<◌, min, get_or, Option, Some, None}
 use Rattle.std.proofs.Math.Path.{refl, ap}
-use Rattle.std.proofs.Common.{sym, ◌∙◌, length-set}
+use Rattle.std.proofs.Common.{sym, ◌∙◌, inl, inr, length-set}
 use Rattle.std.proofs.Math.Bool.{true, false}
 use mathlib.Core.List.{List, [], ◌∷◌}
 use native.Mathlib.Omega.{arith}
@@ -11,16 +11,16 @@ use Rattle.std.proofs.Math.ListN.{length}
 use borrow.Author.Tests.{ltb-true, ltb-false, eqb-true, lt-ltb, le-ltb}
 use Rattle.coal.specs.Choice.{pick}
 use Rattle.book.specs.Types.{Side, Lot, Account, Book, Listed}
-use Rattle.book.specs.Counting.{lowest, those, tally, one_if}
-use Rattle.book.specs.Rows.{blank_account, lots_of, is_long, is_short, any_class, bonded_only, with_offer, units_off}
+use Rattle.book.specs.Counting.{All, lowest, those, tally, one_if}
+use Rattle.book.specs.Rows.{blank_account, lots_of, is_long, is_short, long_units, short_units, any_class, bonded_only, with_offer, units_off}
 use Rattle.book.specs.Tables.{account_at}
 use Rattle.book.specs.Pairing.{pair}
-use Rattle.book.specs.Closing.{use_up, walked, joined, pair_all, is_buyer, is_seller, is_overseas_buyer, with_units, with_lot, lots_in_order, overseas_lots, bonded_offer, bonded_sellers, buyers, sellers, first_pass, pair_whole, equal_seller, second_turn, second_pass, third_pass, all_passes, lapse_turn, lapse_offers}
+use Rattle.book.specs.Closing.{use_up, walked, joined, pair_all, is_buyer, is_seller, is_overseas_buyer, with_units, with_lot, lots_in_order, overseas_lots, bonded_offer, bonded_sellers, buyers, sellers, first_pass, pair_whole, equal_seller, second_turn, second_pass, third_pass, old_passes, lapse_turn, lapse_offers}
 use Rattle.book.specs.Ages.{lots_total}
 use Rattle.book.proofs.laws.Counting.{by_pick, by_eq, rows_add, and_left, and_right, iter_keeps, at_set, tally_sum, one_most, tally_two, tally_either, tally_none, tally_one, tally_few, only, only_else, only_most}
 use Rattle.book.proofs.laws.Sound.{AccountTable, Core}
-use Rattle.book.proofs.laws.Pairing.{Pairable, long_side, short_side, pairable, Paired, pair_core, paired_accounts, paired_matches, paired_buyer, paired_row, paired_sum}
-use Rattle.book.proofs.laws.Walking.{All, all_map, all_of, sum_of, left_of, use_up_left, use_up_length, Member, Listing, Passed, walk_keeps}
+use Rattle.book.proofs.laws.Pairing.{Pairable, long_side, short_side, pairable, Paired, pair_core, paired_accounts, paired_matches, paired_buyer, paired_row, paired_long, paired_short, paired_sum}
+use Rattle.book.proofs.laws.Walking.{all_map, all_of, sum_of, left_of, use_up_left, use_up_length, Member, Listing, Passed, walk_keeps}
 use Rattle.book.proofs.laws.Listing.{those_all, those_length, listed, listed_length, listed_left, listed_climbing, lots_all, lots_counted, lots_few}
 use Rattle.book.specs.Joining.{join_lots}
 use Rattle.book.proofs.laws.Joining.{joins_all, SomeLeft, joins_left, joins_length, joined_walked}
@@ -45,10 +45,10 @@ module _ (b : Book) where
   bonded_left k h = listed_left (bonded_offer b) is_offering k b.account_count h
 
   module _ (r : Core b) where
-    buyer_some : (k : ℕ) → k < b.account_count → is_buyer b k ≡ true → 0 < (account_at b k).units
+    pub buyer_some : (k : ℕ) → k < b.account_count → is_buyer b k ≡ true → 0 < (account_at b k).units
     buyer_some k h e = (r.accounts.rows k h).long_some (long_side (account_at b k).side 1 1 (omega arith) (rw e (omega arith))).0
 
-    seller_some : (k : ℕ) → k < b.account_count → is_seller b k ≡ true → 0 < (account_at b k).units
+    pub seller_some : (k : ℕ) → k < b.account_count → is_seller b k ≡ true → 0 < (account_at b k).units
     seller_some k h e = (r.accounts.rows k h).short_some (short_side (account_at b k).side 1 1 (omega arith) (rw e (omega arith))).0
 
     -- the accounts at which a test holds, with something for each
@@ -279,6 +279,14 @@ module _ (P : List Listed → List Listed → Book → Type 0) (Q : Book → Typ
           (p, record { turns = omega arith; accounts = refl; units = λ k h o. rw (overseas_left b r k h, o) (omega arith) }) in
           record { core = w.core; kept = w.kept; accounts = w.accounts; low_count = w.low_count; high_count = omega (arith, w.high_count) }
 
+-- no account is long any more, or none is short
+abbrev pub Over : Book → Type 0
+Over e = ((k : ℕ) → k < e.account_count → long_units (account_at e k) ≡ 0) ⊎ ((k : ℕ) → k < e.account_count → short_units (account_at e k) ≡ 0)
+
+none_left : (k : ℕ) → left_of k [] ≡ 0
+unfolding sum_of
+none_left k = refl
+
 module _ (P : Book → Type 0) (keep : (b : Book) (c : Bool) (x y u : ℕ) → Core b → Pairable b x y u → P b → P (pair b c 1 x y u)) where
   -- twice the matches and the accounts with units: the same all through the second pass
   record Second (n low sum_of : ℕ) (e : Book) : Type 0 where
@@ -311,7 +319,7 @@ module _ (P : Book → Type 0) (keep : (b : Book) (c : Bool) (x y u : ℕ) → C
       s)
       (λ q. s)
 
-  second_keeps : (b : Book) → b.match_count ≤ 189 → Core b → P b → Second b.account_count b.match_count (2 * b.match_count + busy b) (second_pass b)
+  second_keeps : (b : Book) → b.match_count ≤ 239 → Core b → P b → Second b.account_count b.match_count (2 * b.match_count + busy b) (second_pass b)
   unfolding second_pass
   second_keeps b m r h =
       let k = tally_few (λ k. ltb 0 (account_at b k).units) b.account_count in
@@ -320,33 +328,50 @@ module _ (P : Book → Type 0) (keep : (b : Book) (c : Bool) (x y u : ℕ) → C
       iter_keeps (λ i e. Second n b.match_count t e) second_turn n (second_one n b.match_count t (omega (arith, r.accounts.few))) n 0 b (omega arith)
       (record { core = r; kept = h; accounts = refl; low_count = omega arith; whole = refl })
 
-  third_keeps : (b : Book) → b.match_count + (busy b - 1) ≤ 256 → Core b → P b → Passed P b.account_count b.match_count (b.match_count + (busy b - 1)) (third_pass b)
-  unfolding third_pass
+  -- the third pass from book b: whoever has units left is still listed with them
+  record StillListed (b : Book) (xs ys : List Listed) (e : Book) : Type 0 where
+    pub kept : P e
+    pub accounts : e.account_count ≡ b.account_count
+    pub long : (k : ℕ) → k < b.account_count → long_units (account_at e k) ≤ left_of k xs
+    pub short : (k : ℕ) → k < b.account_count → short_units (account_at e k) ≤ left_of k ys
+
+  listed_one : (b : Book) (x y : Listed) (xs ys : List Listed) (e : Book) → Core e → Pairable e x.account y.account (min x.left y.left) → StillListed b (x ∷ xs) (y ∷ ys) e
+      → StillListed b (use_up (min x.left y.left) x xs) (use_up (min x.left y.left) y ys) (pair e any_class 1 x.account y.account (min x.left y.left))
+  listed_one b x y xs ys e s p w =
+      let u = min x.left y.left in
+      let q = pair_core e any_class 1 x.account y.account u (omega arith) p s in
+      record {
+        kept = keep e any_class x.account y.account u s p w.kept;
+        accounts = paired_accounts q ∙ w.accounts;
+        long = λ k h. omega (arith, w.long k h, paired_long p q s k, use_up_left u x xs k (omega arith));
+        short = λ k h. omega (arith, w.short k h, paired_short p q s k, use_up_left u y ys k (omega arith));
+      }
+
+  third_keeps : (b : Book) → b.match_count + (busy b - 1) ≤ 256 → Core b → P b → Passed (λ e. P e × Over e) b.account_count b.match_count (b.match_count + (busy b - 1)) (third_pass b)
+  unfolding third_pass buyers sellers
   third_keeps b m r h =
       let xs = buyers b in
       let ys = sellers b in
+      let n = b.account_count in
       let k = third_few b r in
-      let w = walk_keeps any_class (λ xs ys e. P e) P (λ x y xs ys e s p g. keep e any_class x.account y.account (min x.left y.left) s p g) (λ ys e s g. g) (λ xs e s g. g)
-      (length xs + length ys) xs ys b (omega arith) (omega arith) r (third_listing b r) h in
+      let w = walk_keeps any_class (StillListed b) (λ e. P e × Over e) (listed_one b)
+      (λ ys e s g. (g.kept, inl (λ k h. omega (arith, g.long k (omega (arith, g.accounts)), none_left k))))
+      (λ xs e s g. (g.kept, inr (λ k h. omega (arith, g.short k (omega (arith, g.accounts)), none_left k))))
+      (length xs + length ys) xs ys b (omega arith) (omega arith) r (third_listing b r)
+      (record { kept = h; accounts = refl; long = λ k h. omega (arith, listed_left (units_of b) (is_buyer b) k n h); short = λ k h. omega (arith, listed_left (units_of b) (is_seller b) k n h) }) in
       record { core = w.core; kept = w.kept; accounts = w.accounts; low_count = w.low_count; high_count = omega (arith, w.high_count) }
 
-  -- the second and the third pass, after a first one from m matches
-  pub later_keep : (m : ℕ) (b : Book) → m ≤ 64 → b.match_count ≤ m + 125 → b.match_count + busy b ≤ m + 126 → Core b → P b → Passed P b.account_count b.match_count (m + 125) (third_pass (second_pass b))
-  later_keep m b h g f r q =
+  -- the second and the third pass, to so many matches at most
+  pub old_keep : (most : ℕ) (b : Book) → most ≤ 239 → b.match_count ≤ most → b.match_count + busy b ≤ most + 1 → Core b → P b
+      → Passed (λ e. P e × Over e) b.account_count b.match_count most (old_passes b)
+  unfolding old_passes
+  old_keep most b h g f r q =
       let s = second_keeps b (omega arith) r q in
       let e = second_pass b in
       let w : 2 * e.match_count + busy e ≡ 2 * b.match_count + busy b = s.whole in
       let lo : b.match_count ≤ e.match_count = s.low_count in
       let t = third_keeps e (omega arith) s.core s.kept in
       record { core = t.core; kept = t.kept; accounts = t.accounts ∙ s.accounts; low_count = omega (arith, t.low_count); high_count = omega (arith, t.high_count) }
-
-  -- "Close can now make up to 125 matches"
-  pub passes_keep : (b : Book) → b.match_count ≤ 64 → Core b → P b → Passed P b.account_count b.match_count (b.match_count + 125) (all_passes b)
-  unfolding all_passes
-  passes_keep b m r h =
-      let f = first_walk (λ xs ys e. P e) P (λ x y xs ys e s p g. keep e bonded_only x.account y.account (min x.left y.left) s p g) (λ ys e s g. g) (λ xs e s g. g) b m r (λ q. h) (λ q. h) in
-      let t = later_keep b.match_count (first_pass b) m f.high_count f.kept.1 f.core f.kept.0 in
-      record { core = t.core; kept = t.kept; accounts = t.accounts ∙ f.accounts; low_count = omega (arith, t.low_count, f.low_count); high_count = t.high_count }
 
 -- ---- the offers lapse
 

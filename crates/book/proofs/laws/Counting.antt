@@ -56,6 +56,12 @@ unfolding sum
 sum_none f zero i h = refl
 sum_none f (suc n) i h = omega (arith, h i (omega arith) (omega arith), sum_none f n (i + 1) (λ k a b. h k (omega arith) (omega arith)))
 
+-- a sum of nothing has nothing of each
+pub sum_zero : (f : ℕ → ℕ) (n i : ℕ) → sum n i f ≡ 0 → (k : ℕ) → i ≤ k → k < i + n → f k ≡ 0
+unfolding sum
+sum_zero f zero i e k a b = absurd (omega arith)
+sum_zero f (suc n) i e k a b = by_eq k i (λ q. rw q (omega arith)) (λ q. sum_zero f n (i + 1) (omega arith) k (omega arith) (omega arith))
+
 -- terms of at most m
 pub sum_most : (f : ℕ → ℕ) (m n i : ℕ) → ((k : ℕ) → f k ≤ m) → sum n i f ≤ m * n
 unfolding sum

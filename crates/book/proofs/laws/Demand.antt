@@ -31,5 +31,5 @@ demand_3 heats s kind t r p a cs =
       entered = λ k h. entered heats s kind t r p a cs k;
       frozen = frozen (after b cs) e;
       no_more = e.core.receipts.no_more;
-      closed = λ front back q h. first_pass_holds (after b front) (after_tables b front o) h;
+      closed = λ front back budget q h. first_pass_holds (after b front) budget (after_tables b front o) h;
     }

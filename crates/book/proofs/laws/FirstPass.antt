@@ -8,12 +8,12 @@ use Prim.Native.Nat.{ℕ, ◌+◌, ◌-◌, ◌≤◌, ◌<◌, min}
 use native.Mathlib.Omega.{arith}
 use Rattle.coal.specs.Choice.{pick}
 use Rattle.book.specs.Types.{ReceiptState, Lot, Book, Call, Outcome, Listed}
-use Rattle.book.specs.Counting.{those, sum}
+use Rattle.book.specs.Counting.{All, those, sum}
 use Rattle.book.specs.Rows.{lots_of, is_free, is_short, long_units, short_units, bonded_only}
 use Rattle.book.specs.Tables.{account_at, receipt_at, with_open, free_receipts}
 use Rattle.book.specs.Answers.{is_accepted}
 use Rattle.book.specs.Pairing.{pair}
-use Rattle.book.specs.Closing.{use_up, is_buyer, is_seller, is_overseas_buyer, overseas_lots, bonded_offer, bonded_sellers, first_pass, second_pass, third_pass, all_passes, lapse_offers}
+use Rattle.book.specs.Closing.{use_up, is_buyer, is_seller, is_overseas_buyer, overseas_lots, bonded_offer, bonded_sellers, first_pass, later_passes, all_passes, lapse_offers}
 use Rattle.book.specs.Calls.{step}
 use Rattle.book.specs.Ages.{lots_total, older_lot}
 use Rattle.book.specs.Lists.{accepts}
@@ -22,11 +22,12 @@ use Rattle.book.proofs.laws.Counting.{by_pick, and_left, and_right, sum_same, su
 use Rattle.book.proofs.laws.Answered.{Answered, answered}
 use Rattle.book.proofs.laws.Sound.{Core, SoundTables}
 use Rattle.book.proofs.laws.Pairing.{Pairable, pairable_long, pairable_short, Paired, pair_core, paired_long, paired_short}
-use Rattle.book.proofs.laws.Walking.{All, sum_of, left_of, use_up_left, use_up_all, front_left}
+use Rattle.book.proofs.laws.Walking.{sum_of, left_of, use_up_left, use_up_all, front_left}
 use Rattle.book.proofs.laws.Listing.{those_all, lots_all, lots_counted, lots_rising}
 use Rattle.book.proofs.laws.Joining.{joins_all}
 use Rattle.book.proofs.laws.Sharing.{share, share_none, share_turn, shares_joined, older, older_first, rising_lots, got_some, got_nothing, got_all}
-use Rattle.book.proofs.laws.Closing.{joined_lots, overseas_left, bonded_left, Firsted, first_walk, later_keep}
+use Rattle.book.proofs.laws.Closing.{joined_lots, overseas_left, bonded_left, Firsted, first_walk}
+use Rattle.book.proofs.laws.Passes.{later_keep}
 use Rattle.book.proofs.laws.Given.{Since, gave_none, since_pair, free_pair, gave_other, gave_nothing, first_gave, first_free}
 
 -- what account k offers of bonded receipts: the lesser of its short units and its free ones
@@ -249,17 +250,17 @@ module _ (b : Book) where
       let all = older_first k l d w.given lots (lots_rising b (those n 0 (is_overseas_buyer b))) (omega (arith, older_listed d k o.there o.overseas_and_long, w.shared k)) in
       got_all (gave b z l) d (lots_of (account_at b l)) j (rising_lots (r.accounts.rows l p.there)) (omega (arith, older_listed d l p.there p.overseas_and_long, w.shared l)) e
 
-  passes_hold : b.board ≡ false → b.match_count ≤ 64 → Core b → FirstPass b (all_passes b)
+  passes_hold : (budget : ℕ) → b.board ≡ false → b.match_count ≤ 64 → Core b → FirstPass b (all_passes b budget)
   unfolding all_passes
-  passes_hold nb m r =
+  passes_hold budget nb m r =
       let f = first_pass b in
       let d = first_done nb m r in
       let w = d.kept.0 in
-      let l = (later_keep (Later f) (later_one f) b.match_count f m d.high_count d.kept.1 d.core (record { since = w.giving.since; same = λ k h o. refl; over = w.over })).kept in
-      let same : (k : ℕ) → OverseasBuyer b k → gave b (all_passes b) k ≡ gave b f k = λ k o. l.same k o.there (and_left (account_at b k).overseas _ o.overseas_and_long) in
+      let l = (later_keep (Later f) (later_one f) b.match_count f budget m d.high_count d.kept.1 d.core (record { since = w.giving.since; same = λ k h o. refl; over = w.over })).kept.0 in
+      let same : (k : ℕ) → OverseasBuyer b k → gave b (all_passes b budget) k ≡ gave b f k = λ k o. l.same k o.there (and_left (account_at b k).overseas _ o.overseas_and_long) in
       record {
-        lesser = out_same f (third_pass (second_pass f)) l.same ∙ walked_lesser w;
-        older_filled = refilled b (all_passes b) f same (lots_filled r w);
+        lesser = out_same f (later_passes f budget) l.same ∙ walked_lesser w;
+        older_filled = refilled b (all_passes b budget) f same (lots_filled r w);
       }
 
 -- in a board book there is nothing to give
@@ -292,14 +293,14 @@ lapse_holds b z f = record {
   older_filled = refilled b (with_open (lapse_offers z) false) z (λ k o. lapse_gave b z k) f.older_filled;
 }
 
-closed_holds : {b : Book} {o : Outcome} → Answered b Call.Close o → SoundTables b → is_accepted o.answer ≡ true → FirstPass b o.book
+closed_holds : {b : Book} {budget : ℕ} {o : Outcome} → Answered b (Call.Close budget) o → SoundTables b → is_accepted o.answer ≡ true → FirstPass b o.book
 closed_holds (Answered.refused n p) t h = impossible (cc)
-closed_holds {b} (Answered.closes g) t h = lapse_holds b (all_passes b) (go b.board refl)
+closed_holds {b} {budget} (Answered.closes g) t h = lapse_holds b (all_passes b budget) (go b.board refl)
   where
-    go : (k : Bool) → b.board ≡ k → FirstPass b (all_passes b)
-    go true q = board_holds b (all_passes b) q t.core
-    go false q = passes_hold b q (t.matches_open g.is_open) t.core
+    go : (k : Bool) → b.board ≡ k → FirstPass b (all_passes b budget)
+    go true q = board_holds b (all_passes b budget) q t.core
+    go false q = passes_hold b budget q (t.matches_open g.is_open) t.core
 
 -- the first pass of an accepted Close gave out the lesser of the two, and filled older lots first
-pub first_pass_holds : (b : Book) → SoundTables b → accepts b Call.Close ≡ true → FirstPass b (step b Call.Close).book
-first_pass_holds b = closed_holds (answered b Call.Close)
+pub first_pass_holds : (b : Book) (budget : ℕ) → SoundTables b → accepts b (Call.Close budget) ≡ true → FirstPass b (step b (Call.Close budget)).book
+first_pass_holds b budget = closed_holds (answered b (Call.Close budget))

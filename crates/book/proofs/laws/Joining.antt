@@ -8,11 +8,12 @@ use Prim.Native.Nat.{ℕ, zero, suc, ◌+◌, ◌-◌, ◌≤◌, ◌<◌, min}
 use native.Mathlib.Omega.{arith}
 use borrow.Author.Tests.{ltb-true, ltb-false, eqb-true, eqb-false, eq-eqb, ne_eqb}
 use Rattle.coal.specs.Choice.{pick}
-use Rattle.book.specs.Types.{Listed}
+use Rattle.book.specs.Types.{Listed, Pair}
+use Rattle.book.specs.Counting.{All}
 use Rattle.book.specs.Joining.{join_lot, join_lots}
-use Rattle.book.specs.Closing.{Pair, use_up, walk, walked, join_pair, joined}
+use Rattle.book.specs.Closing.{use_up, walk, walked, join_pair, joined}
 use Rattle.book.proofs.laws.Counting.{by_pick, only, only_plus}
-use Rattle.book.proofs.laws.Walking.{All, sum_of, left_of, use_up_all, use_up_length}
+use Rattle.book.proofs.laws.Walking.{sum_of, left_of, use_up_all, use_up_length}
 use Rattle.book.proofs.laws.Listing.{Climbing}
 
 -- ---- neighbouring lots of one account

@@ -22,7 +22,8 @@ use Rattle.book.proofs.laws.Posting.{Posted}
 use Rattle.book.proofs.laws.Settling.{rank, Settlement, Loads, vessel_sum, pay_settles, measure_loads, invoice_settles, terminate_settles, hand_over_settles, auction_settles}
 use Rattle.book.proofs.laws.Calls.{deposit_posted, withdraw_posted}
 use Rattle.book.proofs.laws.Pairing.{Pairable, pair_core}
-use Rattle.book.proofs.laws.Closing.{passes_keep, lapsed}
+use Rattle.book.proofs.laws.Closing.{lapsed}
+use Rattle.book.proofs.laws.Passes.{passes_keep}
 use Rattle.book.proofs.laws.Taking.{take_pairable}
 
 -- how far all matches have come, added up: every settlement raises it
@@ -87,11 +88,11 @@ kept_pair b c days x y u d r p =
     (kept_then (kept_account once x (units_off (account_at once x) u) refl)
     (kept_then (kept_account twice y (units_off (account_at twice y) u) refl) (kept_receipts (take_units twice y u) (pair b c days x y u).receipts b.receipt_count))))
 
-kept_close : (b : Book) → SoundTables b → b.«open» ≡ true → Kept b (with_open (lapse_offers (all_passes b)) false)
+kept_close : (b : Book) (budget : ℕ) → SoundTables b → b.«open» ≡ true → Kept b (with_open (lapse_offers (all_passes b budget)) false)
 unfolding lapse_offers total_held stages
-kept_close b r o =
-    let d = all_passes b in
-    let p = passes_keep (Kept b) (λ e c x y u k g h. kept_then h (kept_pair e c 1 x y u (omega arith) k g)) b (r.matches_open o) r.core (kept_receipts b b.receipts b.receipt_count) in
+kept_close b budget r o =
+    let d = all_passes b budget in
+    let p = passes_keep (Kept b) (λ e c x y u k g h. kept_then h (kept_pair e c 1 x y u (omega arith) k g)) b budget (r.matches_open o) r.core (kept_receipts b b.receipts b.receipt_count) in
     let t = p.core.accounts in
     let l = lapsed d (omega (arith, t.size, t.few)) in
     kept_then p.kept (record { count = refl; cash = λ k. ap (λ (a : Account). a.cash) (l.rows k); held = refl; stages = refl; fund = refl; deposited = refl; heats = refl })
@@ -134,7 +135,7 @@ change {b} (Answered.offers {seller = n} g) r = kept (kept_account b n _ refl)
 change {b} (Answered.retracts {seller = n} g) r = kept (kept_account b n _ refl)
 change {b} (Answered.takes {buyer = m} {seller = n} g) r = kept (kept_then (kept_pair b any_class 2 m n (offer_units (account_at b n).offer) (omega arith) r.core (take_pairable r g)) (kept_account _ n _ refl))
 change {b} (Answered.days {p = p} g) r = kept (kept_frame b b.receipts b.receipt_count p (b.day + 1) b.«open»)
-change {b} (Answered.closes g) r = kept (kept_close b r g.is_open)
+change {b} (Answered.closes {budget = budget} g) r = kept (kept_close b budget r g.is_open)
 change {b} (Answered.pays {j = j} g) r = settled (pay_settles b r j g.there g.paired)
 change {b} (Answered.measures {j = j} {w = w} {q = q} {m = m} {s = s} {f = f} {a = a} {d = d} g) r = loaded (measure_loads b r j g.there g.prepaid d w q m s f a g.due) r
 change {b} (Answered.invoices {j = j} g) r = settled (invoice_settles b r j g.there g.in_hold)

@@ -1,26 +1,25 @@
 -- "Close can now make up to 125 matches, so the table grows to 256 and Take still stops at 64": of every reached book. By what the passes keep. Assumes nothing.
-use Rattle.std.specs.Prelude.{◌≡◌, true, ℕ, ◌+◌, ◌-◌, ◌≤◌}
+use Rattle.std.specs.Prelude.{◌≡◌, true, ℕ, ◌+◌, ◌≤◌}
 use Rattle.std.proofs.Common.{arith}
-use Rattle.book.specs.Types.{Book, Answer, Call, Outcome}
-use Rattle.book.specs.Closing.{all_passes}
+use Rattle.book.specs.Types.{Book, Call, Outcome}
+use Rattle.book.specs.Answers.{is_accepted}
+use Rattle.book.specs.Closing.{lapse_offers}
 use Rattle.book.specs.Calls.{step}
-use Rattle.book.specs.Lists.{Reached}
+use Rattle.book.specs.Lists.{Reached, accepts}
 use Rattle.book.proofs.laws.Counting.{impossible}
 use Rattle.book.proofs.laws.Answered.{Answered, answered}
 use Rattle.book.proofs.laws.Sound.{SoundTables}
-use Rattle.book.proofs.laws.Closing.{passes_keep}
+use Rattle.book.proofs.laws.Passes.{passes_keep}
 use Rattle.book.proofs.laws.Steps.{reached_tables}
 
-carried : {b : Book} {o : Outcome} → Answered b Call.Close o → SoundTables b → (n : ℕ) → o.answer ≡ Answer.Accepted n → n ≤ 125
-carried (Answered.refused m p) r n e = impossible (cc)
-carried {b} (Answered.closes g) r n e =
-    let w = passes_keep (λ (z : Book). Unit {0}) (λ z c x y u s p h. tt) b (r.matches_open g.is_open) r.core tt in
-    let q : (all_passes b).match_count - b.match_count ≡ n = cc in
-    omega (arith, w.high_count)
+-- how many matches an accepted Close makes, the first pass's among them
+closed_few : {b : Book} {budget : ℕ} {o : Outcome} → Answered b (Call.Close budget) o → SoundTables b → is_accepted o.answer ≡ true → o.book.match_count ≤ b.match_count + 125
+unfolding lapse_offers
+closed_few (Answered.refused m p) r e = impossible (cc)
+closed_few {b} {budget} (Answered.closes g) r e = (passes_keep (λ (z : Book). Unit {0}) (λ z c x y u s p h. tt) b budget (r.matches_open g.is_open) r.core tt).high_count
 
--- what an accepted Close carries
-pub close_most : {b : Book} → Reached b → (n : ℕ) → (step b Call.Close).answer ≡ Answer.Accepted n → n ≤ 125
-close_most {b} h = carried (answered b Call.Close) (reached_tables h)
+pub close_most : {b : Book} → Reached b → (budget : ℕ) → accepts b (Call.Close budget) ≡ true → (step b (Call.Close budget)).book.match_count ≤ b.match_count + 125
+close_most {b} h budget = closed_few (answered b (Call.Close budget)) (reached_tables h)
 
 -- the matches of a book: those at which Take stops, and those of a Close
 pub matches_most : {b : Book} → Reached b → b.match_count ≤ 64 + 125

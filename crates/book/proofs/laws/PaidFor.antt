@@ -19,7 +19,7 @@ use Rattle.book.proofs.laws.Tables.{frozen_add, frozen_set}
 use Rattle.book.proofs.laws.Settling.{Settlement, Loads, pay_settles, measure_loads, invoice_settles, terminate_settles, hand_over_settles, auction_settles}
 use Rattle.book.proofs.laws.Freezing.{newly, newly_free}
 use Rattle.book.proofs.laws.Pairing.{Pairable, pair_core, pair_receipt, paired_receipts, paired_new, paired_old, paired_matches}
-use Rattle.book.proofs.laws.Closing.{passes_keep}
+use Rattle.book.proofs.laws.Passes.{passes_keep}
 use Rattle.book.proofs.laws.Taking.{take_pairable}
 use Rattle.book.proofs.laws.Steps.{reached_tables}
 
@@ -92,7 +92,7 @@ full (Answered.offers g) r f = f
 full (Answered.retracts g) r f = f
 full {b} (Answered.takes {buyer = m} {seller = n} g) r f = full_pair b any_class 2 m n (offer_units (account_at b n).offer) (omega arith) r.core (take_pairable r g) f
 full (Answered.days g) r f = f
-full {b} (Answered.closes g) r f = (passes_keep Full (λ e c x y u k g h. full_pair e c 1 x y u (omega arith) k g h) b (r.matches_open g.is_open) r.core f).kept
+full {b} (Answered.closes {budget = budget} g) r f = (passes_keep Full (λ e c x y u k g h. full_pair e c 1 x y u (omega arith) k g h) b budget (r.matches_open g.is_open) r.core f).kept
 full {b} (Answered.pays {j = j} g) r f = full_settled r (pay_settles b r j g.there g.paired) f
 full {b} (Answered.measures {j = j} {w = w} {q = q} {m = m} {s = s} {f = v} {a = a} {d = d} g) r f = full_loaded r (measure_loads b r j g.there g.prepaid d w q m s v a g.due) f
 full {b} (Answered.invoices {j = j} g) r f = full_settled r (invoice_settles b r j g.there g.in_hold) f

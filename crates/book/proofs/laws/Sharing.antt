@@ -4,13 +4,14 @@ use Rattle.std.specs.Prelude.{◌≡◌, refl, Bool, true, false, List, [], ◌�
 use Rattle.std.proofs.Common.{ap, ◌∙◌, arith, ltb-true, ltb-false, eqb-true, lt-ltb, le-ltb}
 use Rattle.coal.specs.Choice.{pick}
 use Rattle.book.specs.Types.{Lot, Account, Listed}
+use Rattle.book.specs.Counting.{All}
 use Rattle.book.specs.Rows.{no_lot, lots_of}
 use Rattle.book.specs.Closing.{use_up}
 use Rattle.book.specs.Demand3.{counts_for}
 use Rattle.book.specs.Ages.{lots_total, older_lot}
 use Rattle.book.proofs.laws.Counting.{by_pick, only, only_most, only_plus, only_split}
 use Rattle.book.proofs.laws.Sound.{SoundAccount}
-use Rattle.book.proofs.laws.Walking.{All, all_map, sum_of}
+use Rattle.book.proofs.laws.Walking.{all_map, sum_of}
 use Rattle.book.proofs.laws.Listing.{Rising, ByDay}
 use Rattle.book.specs.Joining.{join_lot, join_lots}
 

@@ -12,7 +12,8 @@ use Rattle.book.proofs.laws.Answered.{MayTake, MayClose}
 use Rattle.book.proofs.laws.Sound.{SoundOffer, SoundTables}
 use Rattle.book.proofs.laws.Tables.{no_offer, core_put}
 use Rattle.book.proofs.laws.Pairing.{Pairable, pairable, pair_core, paired_buyer, paired_other, paired_accounts, paired_matches}
-use Rattle.book.proofs.laws.Closing.{passes_keep, lapsed, lapse_core}
+use Rattle.book.proofs.laws.Closing.{lapsed, lapse_core}
+use Rattle.book.proofs.laws.Passes.{passes_keep}
 
 -- an account that is long has no offer, whatever units it loses
 long_offer : (a : Account) (u : ℕ) → a.side ≡ Side.Long → SoundOffer a → SoundOffer (units_off a u)
@@ -49,11 +50,11 @@ module _ {b : Book} (r : SoundTables b) where
         matches_open = λ z. omega (arith, paired_matches q, g.space);
       }
 
-  pub close_tables : MayClose b → SoundTables (with_open (lapse_offers (all_passes b)) false)
+  pub close_tables : {budget : ℕ} → MayClose b budget → SoundTables (with_open (lapse_offers (all_passes b budget)) false)
   unfolding lapse_offers
-  close_tables g =
-      let p = passes_keep (λ (x : Book). Unit {0}) (λ b c x y u h g k. tt) b (r.matches_open g.is_open) r.core tt in
-      let d = all_passes b in
+  close_tables {budget} g =
+      let p = passes_keep (λ (x : Book). Unit {0}) (λ b c x y u h g k. tt) b budget (r.matches_open g.is_open) r.core tt in
+      let d = all_passes b budget in
       let t = p.core.accounts in
       let c = lapse_core d p.core in
       let l = lapsed d (omega (arith, t.size, t.few)) in

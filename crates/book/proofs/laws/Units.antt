@@ -24,7 +24,8 @@ use Rattle.book.proofs.laws.Posting.{Posted}
 use Rattle.book.proofs.laws.Settling.{Settlement, Loads, vessel_sum, settlement_sum, pay_settles, measure_loads, invoice_settles, terminate_settles, hand_over_settles, auction_settles}
 use Rattle.book.proofs.laws.Calls.{cell, opening_tables, deposit_posted, withdraw_posted}
 use Rattle.book.proofs.laws.Pairing.{Pairable, pair_core, off_units, paired_sum}
-use Rattle.book.proofs.laws.Closing.{passes_keep, lapsed}
+use Rattle.book.proofs.laws.Closing.{lapsed}
+use Rattle.book.proofs.laws.Passes.{passes_keep}
 use Rattle.book.proofs.laws.Taking.{take_pairable}
 use Rattle.book.proofs.laws.Steps.{step_tables}
 
@@ -78,7 +79,7 @@ even_loaded r (Loads.settles s) = even_settled r s
 
 -- ---- a pairing
 
-even_pair : (b : Book) (c : Bool) (days buyer seller u : ℕ) → days ≤ 2 → Core b → Pairable b buyer seller u → Even b (pair b c days buyer seller u) 0
+pub even_pair : (b : Book) (c : Bool) (days buyer seller u : ℕ) → days ≤ 2 → Core b → Pairable b buyer seller u → Even b (pair b c days buyer seller u) 0
 unfolding units_long units_short units_in_matches
 even_pair b c days buyer seller u d r p =
     let q = pair_core b c days buyer seller u d p r in
@@ -99,11 +100,11 @@ even_pair b c days buyer seller u d r p =
     let a₆ : (short_units y ≡ y.units) × (long_units y ≡ 0) = (rw p.seller_short, rw p.seller_short) in
     record { traded = omega (arith, p.buyer_has, a₅.0, a₆.1); balanced = omega (arith, p.buyer_has, p.seller_has, a₅.0, a₅.1, a₆.0, a₆.1) }
 
-even_close : (b : Book) → SoundTables b → b.«open» ≡ true → Even b (with_open (lapse_offers (all_passes b)) false) 0
+even_close : (b : Book) (budget : ℕ) → SoundTables b → b.«open» ≡ true → Even b (with_open (lapse_offers (all_passes b budget)) false) 0
 unfolding lapse_offers units_in_matches
-even_close b r o =
-    let d = all_passes b in
-    let p = passes_keep (λ (e : Book). Even b e 0) (λ e c x y u k g h. even_then h (even_pair e c 1 x y u (omega arith) k g)) b (r.matches_open o) r.core (even_none b) in
+even_close b budget r o =
+    let d = all_passes b budget in
+    let p = passes_keep (λ (e : Book). Even b e 0) (λ e c x y u k g h. even_then h (even_pair e c 1 x y u (omega arith) k g)) b budget (r.matches_open o) r.core (even_none b) in
     let t = p.core.accounts in
     let l = lapsed d (omega (arith, t.size, t.few)) in
     even_then p.kept (even_placed refl (λ k. record { side = ap (λ (a : Account). a.side) (l.rows k); units = ap (λ (a : Account). a.units) (l.rows k) }) refl)
@@ -168,7 +169,7 @@ even {b} (Answered.offers {seller = n} g) r = even_put b n _ refl refl
 even {b} (Answered.retracts {seller = n} g) r = even_put b n _ refl refl
 even {b} (Answered.takes {buyer = m} {seller = n} g) r = even_then (even_pair b any_class 2 m n (offer_units (account_at b n).offer) (omega arith) r.core (take_pairable r g)) (even_put _ n _ refl refl)
 even {b} (Answered.days {p = p} g) r = even_frame b b.receipts b.receipt_count p (b.day + 1) b.«open»
-even {b} (Answered.closes g) r = even_close b r g.is_open
+even {b} (Answered.closes {budget = budget} g) r = even_close b budget r g.is_open
 even {b} (Answered.pays {j = j} g) r = even_settled r (pay_settles b r j g.there g.paired)
 even {b} (Answered.measures {j = j} {w = w} {q = q} {m = m} {s = s} {f = f} {a = a} {d = d} g) r = even_loaded r (measure_loads b r j g.there g.prepaid d w q m s f a g.due)
 even {b} (Answered.invoices {j = j} g) r = even_settled r (invoice_settles b r j g.there g.in_hold)

@@ -25,7 +25,7 @@ use Rattle.book.proofs.laws.Sound.{SoundMatch, Core, SoundTables}
 use Rattle.book.proofs.laws.Settling.{weight_some, rank, Settlement, pay_settles, invoice_settles, hand_over_settles, auction_settles}
 use Rattle.book.proofs.laws.Pairing.{Pairable, pair_core, paired_new, paired_old, paired_matches}
 use Rattle.book.proofs.laws.Calls.{opening_tables}
-use Rattle.book.proofs.laws.Closing.{passes_keep}
+use Rattle.book.proofs.laws.Passes.{passes_keep}
 use Rattle.book.proofs.laws.Taking.{take_pairable}
 use Rattle.book.proofs.laws.Steps.{step_tables, after_tables, reached_tables}
 
@@ -345,8 +345,8 @@ progress (Answered.offers g) r p = stay p
 progress (Answered.retracts g) r p = stay p
 progress {b} (Answered.takes {buyer = x} {seller = y} g) r p = stay (paired b any_class 2 x y (offer_units (account_at b y).offer) (omega arith) r.core (take_pairable r g) p)
 progress (Answered.days g) r p = stay p
-progress {b} (Answered.closes g) r {j} {n} {d} {a} {l} p =
-    stay (passes_keep (λ (z : Book). Progress z.tonnes z.match_count z.matches j n d a l) (λ e c x y u k g h. paired e c 1 x y u (omega arith) k g h) b (r.matches_open g.is_open) r.core p).kept
+progress {b} (Answered.closes {budget = budget} g) r {j} {n} {d} {a} {l} p =
+    stay (passes_keep (λ (z : Book). Progress z.tonnes z.match_count z.matches j n d a l) (λ e c x y u k g h. paired e c 1 x y u (omega arith) k g h) b budget (r.matches_open g.is_open) r.core p).kept
 progress {b} (Answered.pays {j = i} g) r p = stay (settled r p (pay_settles b r i g.there g.paired) (λ e. impossible (cc (e, g.paired))))
 progress {b} (Answered.measures {j = i} {w = w} {q = q} {m = m} {s = s} {f = f} {a = v} {d = u} g) r {j} {n} {d} {a} {l} p =
     by_eq i j

@@ -8,6 +8,7 @@ use native.Mathlib.Omega.{arith}
 use Rattle.std.proofs.Math.ListN.{length}
 use borrow.Author.Tests.{eqb-true, eqb-false}
 use Rattle.book.specs.Types.{Book, Listed}
+use Rattle.book.specs.Counting.{All}
 use Rattle.book.specs.Rows.{long_units, short_units}
 use Rattle.book.specs.Tables.{account_at}
 use Rattle.book.specs.Pairing.{pair}
@@ -17,10 +18,6 @@ use Rattle.book.proofs.laws.Sound.{Core}
 use Rattle.book.proofs.laws.Pairing.{Pairable, pairable, Paired, pair_core, paired_accounts, paired_matches, paired_long, paired_short}
 
 -- ---- all members of a list
-
-abbrev pub All : {A : Type 0} → (A → Type 0) → List A → Type 0
-All P [] = Unit {0}
-All P (x ∷ l) = P x × All P l
 
 pub all_map : {A : Type 0} (P Q : A → Type 0) (l : List A) → ((x : A) → P x → Q x) → All P l → All Q l
 all_map P Q [] f h = tt
