@@ -1,4 +1,5 @@
 /* The delivery book of one contract month: one session from a buffer to a buffer, or the page of the book after it, with the printed heat table of the coal price or a port's own; and the printed one.
+   A factory's daily dispatch, shared among its holders: one list of calls from a buffer to a buffer.
    Link with crates/firmware/out/libfirmware.a, which `rt lib` in crates/firmware writes. */
 #ifndef DELIVERY_H
 #define DELIVERY_H
@@ -45,5 +46,16 @@ size_t delivery_page_by_table(const uint8_t *table, size_t table_length, const u
    4,950,000,000, ten decimal digits and a newline. Step 2 of the coal price at these heats is the match's price times the numerator, divided by 4,950,000,000, an exact
    half to the even fen. Returns DELIVERY_HEAT_TABLE_ROOM. A shorter output is refused: 0 is returned and nothing is written. */
 size_t delivery_heat_table(uint8_t *output, size_t output_length);
+
+/* Room for the answers to every list of input_length bytes: 82 for each byte, and 24. */
+#define DELIVERY_DISPATCH_ROOM(input_length) (82 * (size_t)(input_length) + 24)
+
+/* Runs a list of a factory's calls, the lines of input's bytes, and writes its answers, a line each, from the start of output, where later bytes stay as they were; returns how many bytes it wrote.
+   Line one is `0 daily`, the units that the factory loads a day, 1 to 1,000. Then `1 claim` arrives behind the other holders, up to 32, with 0 to 1,000 units to collect, `2 place` leaves, a holder named by its place
+   in order of appointment, counted from 0, and `3` is a day: its units go round the holders one at a time, from the first, past those who are served.
+   An accepted line one, arrival or departure prints `ok 0`, a day `ok` and each holder's share. A refusal prints `no n`: 6 no holder has that place, 8 the daily number or the claim is out of range,
+   33 there are 32 holders, 26 the line is not of the form; it changes nothing, and only that of line one ends the output. An input above 65,536 bytes, and an empty one, print `no 26`.
+   An output of less than DELIVERY_DISPATCH_ROOM(input_length) bytes is refused: 0 is returned and nothing is written. The two buffers must not overlap. */
+size_t delivery_dispatch(const uint8_t *input, size_t input_length, uint8_t *output, size_t output_length);
 
 #endif

@@ -1,4 +1,5 @@
-//! Sessions made from a seed: mostly sensible calls, with wrong ones and damaged lines mixed in.
+//! Sessions, and lists of a factory's calls, made from a seed: mostly sensible calls, with wrong ones and damaged lines mixed in.
+use crate::factory::Factory;
 use crate::machine::{Book, Stage};
 use crate::passes::walk;
 
@@ -414,6 +415,76 @@ pub fn few(seed: u64, calls: usize) -> Vec<u8> {
 /// A coal port's session in which a cargo of one tonne is measured at this heat, at this price: its 12 lines are accepted.
 pub fn measured(heat: u64, price: u64) -> Vec<u8> {
     format!("0 1 1 20 {price}\n1 0 1\n1 0 1\n2 0 1000000\n7 1 5800\n4 0 1 1\n8 1 1\n10 0 1\n11 1\n11 1\n13 0\n14 0 1000 {heat} 0 0 3500 1000 1000\n").into_bytes()
+}
+
+/// A number out of every range of a factory, in whose lowest bits is `x`.
+fn wide(r: &mut Random, x: u64) -> u64 {
+    r.pick(&[1 << 10, 1 << 16, 1 << 32, 1 << 58]) + x
+}
+
+/// A factory's daily units, small or large; in a short list now and then out of range.
+fn daily(r: &mut Random, short: bool) -> u64 {
+    match r.below(20) {
+        0 | 1 if short => r.pick(&[0, 1_001, 999_999_999_999_999_999]),
+        2 if short => wide(r, 5),
+        3 => r.pick(&[1, 999, 1_000]),
+        4..=9 => 1 + r.below(1_000),
+        10..=14 => 1 + r.below(100),
+        _ => 1 + r.below(12),
+    }
+}
+
+/// What an arriving holder has to collect: mostly up to `most`, now and then out of range.
+fn claim(r: &mut Random, most: u64) -> u64 {
+    match r.below(40) {
+        0 | 1 => near(r, &[1_000]),
+        2 => wide(r, most),
+        3..=5 => r.below(2),
+        _ => r.below(most + 1),
+    }
+}
+
+/// A leaver's place, now and then an empty one.
+fn place(r: &mut Random, holders: u64) -> u64 {
+    match r.below(20) {
+        0 => near(r, &[holders, 32]),
+        1 => wide(r, 0),
+        _ => r.below(holders.max(1)),
+    }
+}
+
+/// Lines of numbers that are no calls on a factory.
+const NO_CALLS: [&[u64]; 10] = [&[0, 5], &[0], &[1], &[1, 5, 5], &[2], &[2, 0, 0], &[3, 0], &[4], &[4, 0], &[1 << 32 | 3]];
+
+/// One call on a factory which has mostly `aim` holders, that claim up to `most`.
+fn factory_call(r: &mut Random, factory: &Factory, aim: u64, most: u64) -> Vec<u64> {
+    let holders = factory.holders.len() as u64;
+    let (arrivals, leavers) = if holders < aim { (45, 10) } else { (10, 30) };
+    match r.below(100) {
+        0 => NO_CALLS[r.below(10) as usize].to_vec(),
+        x if x <= arrivals => vec![1, claim(r, most)],
+        x if x <= arrivals + leavers => vec![2, place(r, holders)],
+        _ => vec![3],
+    }
+}
+
+/// A list of a factory's calls from a seed: line one and then so many calls, now and then days in a row, mostly until nobody waits. Where line one is refused, the calls are for the nearest factory.
+pub fn factory_list(seed: u64, calls: usize) -> Vec<u8> {
+    let mut r = Random::new(seed);
+    let daily = daily(&mut r, calls < 50);
+    let mut out = Vec::new();
+    write_line(&mut out, &[0, daily]);
+    let mut factory = Factory::new(daily.clamp(1, 1_000)).expect("in range");
+    let (aim, most) = (r.pick(&[1, 2, 5, 12, 31, 32]), r.pick(&[2, 30, 200, 1_000]));
+    let mut in_a_row = false;
+    for _ in 0..calls {
+        let waits = factory.holders.iter().any(|&left| left > 0);
+        in_a_row = waits && r.chance(if in_a_row { 95 } else { 3 });
+        let c = if in_a_row { vec![3] } else { factory_call(&mut r, &factory, aim, most) };
+        write_line(&mut out, &c);
+        let _ = factory.call(&c);
+    }
+    out
 }
 
 /// Damage: bytes changed, put in, taken out, lines blanked or cut, the end lost.

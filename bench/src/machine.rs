@@ -237,7 +237,7 @@ pub fn coal_weight(d: u64, w: u64, m: u64) -> (u128, u64) {
     (x, w.saturating_sub(d + 500_000))
 }
 
-fn no(condition: bool, number: u64) -> Result<(), u64> {
+pub(crate) fn no(condition: bool, number: u64) -> Result<(), u64> {
     if condition {
         Err(number)
     } else {

@@ -1,4 +1,4 @@
-//! The proved book, through its C interface (include/delivery.h).
+//! The proved book and the proved factory, through their C interface (include/delivery.h).
 
 extern "C" {
     fn delivery_session(input: *const u8, input_length: usize, output: *mut u8, output_length: usize) -> usize;
@@ -6,6 +6,7 @@ extern "C" {
     fn delivery_page(input: *const u8, input_length: usize, output: *mut u8, output_length: usize) -> usize;
     fn delivery_page_by_table(table: *const u8, table_length: usize, input: *const u8, input_length: usize, output: *mut u8, output_length: usize) -> usize;
     fn delivery_heat_table(output: *mut u8, output_length: usize) -> usize;
+    fn delivery_dispatch(input: *const u8, input_length: usize, output: *mut u8, output_length: usize) -> usize;
 }
 
 /// Room for the output of every session.
@@ -56,4 +57,24 @@ pub fn page(input: &[u8], out: &mut Vec<u8>) -> usize {
 pub fn heat_table(out: &mut [u8]) -> usize {
     // The slice is valid for its length, and the function writes only within it.
     unsafe { delivery_heat_table(out.as_mut_ptr(), out.len()) }
+}
+
+/// Room for the answers to every list of a factory's calls of so many bytes.
+pub fn dispatch_room(bytes: usize) -> usize {
+    82 * bytes + 24
+}
+
+/// The answers to a list of a factory's calls into a lent buffer of any length; answers how many bytes it wrote.
+pub fn lend_dispatch(input: &[u8], out: &mut [u8]) -> usize {
+    // As the page above.
+    unsafe { delivery_dispatch(input.as_ptr(), input.len(), out.as_mut_ptr(), out.len()) }
+}
+
+/// The answers into a buffer with room for them, which is not cleared first.
+pub fn dispatch(input: &[u8], out: &mut Vec<u8>) -> usize {
+    let room = dispatch_room(input.len());
+    if out.len() < room {
+        out.resize(room, 0);
+    }
+    lend_dispatch(input, out)
 }

@@ -2,7 +2,7 @@
 use crate::machine::{load, Answer, Book, Carried, Side, Stage, State};
 use std::io::Write;
 
-const LARGEST: usize = 65_536;
+pub(crate) const LARGEST: usize = 65_536;
 
 /// How many arguments each call has, by number; `None` for no call.
 fn arguments(number: u64) -> Option<usize> {
@@ -10,8 +10,8 @@ fn arguments(number: u64) -> Option<usize> {
     COUNTS.get(usize::try_from(number).ok()?).copied()
 }
 
-/// The numbers of a line, of which there are at most nine; `None` where the line is not of the form.
-pub(crate) fn numbers(line: &[u8], values: &mut [u64; 9]) -> Option<usize> {
+/// The decimal numbers of a line, of which there are at most nine; `None` where the line is not of the form.
+pub(crate) fn decimals(line: &[u8], values: &mut [u64; 9]) -> Option<usize> {
     let (&last, body) = line.split_last()?;
     if last != b'\n' {
         return None;
@@ -31,10 +31,13 @@ pub(crate) fn numbers(line: &[u8], values: &mut [u64; 9]) -> Option<usize> {
         values[count] = value;
         count += 1;
     }
-    if arguments(values[0])? + 1 != count {
-        return None;
-    }
     Some(count)
+}
+
+/// The numbers of a line that is a call with just its arguments.
+pub(crate) fn numbers(line: &[u8], values: &mut [u64; 9]) -> Option<usize> {
+    let count = decimals(line, values)?;
+    (arguments(values[0])? + 1 == count).then_some(count)
 }
 
 fn stage(s: Stage) -> u64 {

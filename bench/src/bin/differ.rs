@@ -1,17 +1,17 @@
-//! Runs the proved book and the plain one over the same sessions and compares every byte, of the sessions and of the pages, with the printed heat table and with others, and the heat table; and settles matches of both in either order: differ [SESSIONS]
-use bench::generate::{clerks, damage, few, heat_table, measured, own_table, session, short_session, vessels, Random};
+//! Runs the proved book and the plain one over the same sessions and compares every byte, of the sessions and of the pages, with the printed heat table and with others, and the heat table; and settles matches of both in either order; and runs the proved factory and the plain one over the same lists of calls and compares every byte: differ [SESSIONS]
+use bench::generate::{clerks, damage, factory_list, few, heat_table, measured, own_table, session, short_session, vessels, Random};
 use bench::orders::{exchanged, neighbours, Tried};
 
 /// Makes a session from a seed, of so many calls.
 type Make = fn(u64, usize) -> Vec<u8>;
 
-/// Whether a text is written into a buffer of its own length, and into longer ones, whose later bytes stay, and not into a shorter one, which stays as it was.
-fn lent_agrees(text: &[u8], rooms: &[usize], write: impl Fn(&mut [u8]) -> usize) -> bool {
+/// Whether a text is written into a buffer of `least` bytes, and into longer ones, whose bytes behind it stay, and not into a shorter one, which stays as it was.
+fn lent_agrees(text: &[u8], least: usize, rooms: &[usize], write: impl Fn(&mut [u8]) -> usize) -> bool {
     let n = text.len();
     rooms.iter().all(|&room| {
         let mut lent = vec![7u8; room];
         let written = write(&mut lent);
-        if room < n {
+        if room < least {
             written == 0 && lent.iter().all(|&c| c == 7)
         } else {
             written == n && lent[..n] == *text && lent[n..].iter().all(|&c| c == 7)
@@ -21,18 +21,18 @@ fn lent_agrees(text: &[u8], rooms: &[usize], write: impl Fn(&mut [u8]) -> usize)
 
 fn page_agrees(text: &[u8], page: &[u8]) -> bool {
     let n = page.len();
-    lent_agrees(page, &[0, 1, n / 2, n - 1, n, n + 1, n + 41, bench::proved::PAGE_ROOM], |lent| bench::proved::lend(text, lent))
+    lent_agrees(page, n, &[0, 1, n / 2, n - 1, n, n + 1, n + 41, bench::proved::PAGE_ROOM], |lent| bench::proved::lend(text, lent))
 }
 
 fn page_by_table_agrees(table: &[u8], text: &[u8], page: &[u8]) -> bool {
     let n = page.len();
-    lent_agrees(page, &[0, n - 1, n, n + 1, bench::proved::PAGE_ROOM], |lent| bench::proved::lend_by_table(table, text, lent))
+    lent_agrees(page, n, &[0, n - 1, n, n + 1, bench::proved::PAGE_ROOM], |lent| bench::proved::lend_by_table(table, text, lent))
 }
 
 fn table_agrees() -> bool {
     let table = bench::machine::heat_table();
     let n = table.len();
-    lent_agrees(table.as_bytes(), &[0, 1, n / 2, n - 1, n, n + 1, n + 41], bench::proved::heat_table)
+    lent_agrees(table.as_bytes(), n, &[0, 1, n / 2, n - 1, n, n + 1, n + 41], bench::proved::heat_table)
 }
 
 /// Whether both write the same of a cargo of a tonne at each heat from 4,000 to 6,300, looked up or not, at several prices, in the printed heat table and in one of its own.
@@ -65,6 +65,59 @@ fn orders_agree<'a>(text: &'a [u8], within: u64, r: &mut Random, tried: &mut Tri
     Ok(())
 }
 
+/// How many calls a session or a list has.
+fn length(r: &mut Random) -> usize {
+    let calls = match r.below(10) {
+        0 => r.below(6),
+        1..=6 => 20 + r.below(150),
+        7 | 8 => 200 + r.below(1_200),
+        _ => 3_000 + r.below(3_200),
+    };
+    calls as usize
+}
+
+/// A list of a factory's calls from a seed: one in three damaged, one in a thousand of about 65,536 bytes.
+fn make_list(seed: u64) -> Vec<u8> {
+    let mut r = Random::new(seed ^ 0xFAC7);
+    let longest = seed % 1_000 == 8;
+    let calls = if longest { 30_000 } else { length(&mut r) };
+    let mut text = factory_list(seed, calls);
+    if seed % 3 == 0 {
+        damage(&mut r, &mut text);
+    }
+    if longest {
+        text.resize(65_535 + (seed / 1_000 % 3) as usize, b'\n');
+    }
+    text
+}
+
+/// The lists that were compared: the lines of their answers, of these the accepted ones, and of these the days.
+#[derive(Default)]
+struct Lists {
+    lists: usize,
+    bytes: usize,
+    lines: usize,
+    accepted: usize,
+    days: usize,
+}
+
+impl Lists {
+    /// Whether both factories answer a list with the same bytes.
+    fn agree(&mut self, text: &[u8]) -> bool {
+        let mut answers = Vec::new();
+        let n = bench::factory::run(text, &mut answers);
+        let lines = || answers.split_inclusive(|&c| c == b'\n');
+        let accepted = |line: &[u8]| line.starts_with(b"ok");
+        self.lists += 1;
+        self.bytes += text.len();
+        self.lines += lines().count();
+        self.accepted += lines().filter(|line| accepted(line)).count();
+        self.days += text.split_inclusive(|&c| c == b'\n').zip(lines()).filter(|(call, line)| *call == b"3\n" && accepted(line)).count();
+        let room = bench::proved::dispatch_room(text.len());
+        lent_agrees(&answers, room, &[0, n, room - 1, room, room + 41], |lent| bench::proved::lend_dispatch(text, lent))
+    }
+}
+
 fn main() {
     let count: u64 = std::env::args().nth(1).and_then(|a| a.parse().ok()).unwrap_or(20_000);
     let (mut ours, mut plain, mut page, mut by_table, mut page_by) = (Vec::new(), Vec::new(), Vec::new(), Vec::new(), Vec::new());
@@ -75,14 +128,10 @@ fn main() {
         std::process::exit(1);
     }
     let (mut bytes, mut lines, mut accepted, mut page_lines) = (0usize, 0usize, 0usize, 0usize);
+    let mut lists = Lists::default();
     for seed in 0..count {
         let mut r = Random::new(seed ^ 0x5EED);
-        let calls = match r.below(10) {
-            0 => r.below(6),
-            1..=6 => 20 + r.below(150),
-            7 | 8 => 200 + r.below(1_200),
-            _ => 3_000 + r.below(3_200),
-        } as usize;
+        let calls = length(&mut r);
         let (make, within): (Make, u64) = match seed % 8 {
             1 | 5 => (short_session, 1),
             2 => (vessels, 1),
@@ -129,6 +178,12 @@ fn main() {
             println!("session {} differs with lines exchanged: see differs.in", seed);
             std::process::exit(1);
         }
+        let list = make_list(seed);
+        if !lists.agree(&list) {
+            std::fs::write("differs.in", &list).expect("written");
+            println!("list {} differs: see differs.in", seed);
+            std::process::exit(1);
+        }
         let answers: Vec<&[u8]> = plain.split(|&c| c == b'\n').collect();
         swaps += places.len();
         swaps_accepted += places.iter().filter(|&&n| answers[n..n + 2].iter().all(|l| l.starts_with(b"ok "))).count();
@@ -141,4 +196,5 @@ fn main() {
     }
     println!("{} sessions, {} bytes in, {} lines out, {} accepted, {} lines of pages; each again with a heat table of its own, of which {} are refused and {} change the output: every byte the same", count, bytes, lines, accepted, page_lines, refused, other);
     println!("settled in either order: {}; {} times two neighbouring lines exchanged for the proved book, {} of them both accepted: every answer and book the same", tried, swaps, swaps_accepted);
+    println!("{} lists of a factory's calls, {} bytes in, {} lines out, {} accepted, {} of them days: every byte the same", lists.lists, lists.bytes, lists.lines, lists.accepted, lists.days);
 }

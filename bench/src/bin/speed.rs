@@ -1,5 +1,5 @@
-//! Times the proved book and the plain one on the same sessions, in one run.
-use bench::generate::{session, short_session};
+//! Times the proved book and the plain one on the same sessions, and the proved factory and the plain one on the same lists of calls, in one run.
+use bench::generate::{factory_list, session, short_session};
 use std::time::Instant;
 
 type Run = fn(&[u8], &mut Vec<u8>) -> usize;
@@ -38,4 +38,6 @@ fn main() {
     table("mixed sessions", proved, plain, session, &[(100, 2_000), (300, 700), (1_000, 200), (3_000, 70), (6_000, 35)]);
     table("short lines", proved, plain, short_session, &[(100, 2_000), (300, 700), (1_000, 200), (3_000, 70), (10_000, 20)]);
     table("pages after mixed sessions", bench::proved::page, bench::session::page, session, &[(100, 2_000), (1_000, 200)]);
+    let (proved, plain): (Run, Run) = (bench::proved::dispatch, bench::factory::run);
+    table("lists of a factory's calls", proved, plain, factory_list, &[(100, 2_000), (1_000, 200), (10_000, 20)]);
 }

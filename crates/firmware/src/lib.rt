@@ -2,7 +2,7 @@
 #![tactic(auto)]
 
 ghost use Rattle.heats.specs.Numerators.{heat_table};
-ghost use Rattle.firmware.specs.Served.{Served, PageServed, ByTable, Tabled};
+ghost use Rattle.firmware.specs.Served.{Served, PageServed, ByTable, Tabled, DispatchServed};
 
 use heats::HeatTable;
 use loading::PortTable;
@@ -76,4 +76,16 @@ pub extern "C" fn delivery_heat_table(out: &mut [u8]) -> usize
     let mut printer = Printer::new(out);
     heat_text::print_table(&mut printer);
     printer.at
+}
+
+// The answers to a list of a factory's calls, from a buffer to a buffer: how many bytes were written, or 0, with nothing written, where the output has less room than every list of as many bytes needs.
+#[unsafe(no_mangle)]
+pub extern "C" fn delivery_dispatch(input: &[u8], out: &mut [u8]) -> usize
+    ensures { DispatchServed input.now out.old out.new result }
+{
+    // 82 * input.len() + 24 might not fit a number of the machine.
+    if out.len() < 24 || (out.len() - 24) / 82 < input.len() {
+        return 0;
+    }
+    factory_text::dispatch(input, out)
 }

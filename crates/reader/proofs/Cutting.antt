@@ -1,15 +1,17 @@
 -- A text cut into lines: where a line ends, and the first line of a text. Assumes nothing.
-use Prim.Native.Nat.{ℕ, ◌+◌, ◌≤◌, ◌<◌}
+use Prim.Native.Nat.{ℕ, ◌+◌, ◌-◌, ◌≤◌, ◌<◌}
 use native.Mathlib.Omega.{arith}
 use native.Mathlib.Numerals.{add-one}
-use mathlib.Core.Path.{◌≡◌, refl}
+use mathlib.Core.Path.{◌≡◌, refl, sym, ap}
 use mathlib.Core.Bool.{Bool, true, false, cond}
 use mathlib.Core.List.{List, [], ◌∷◌}
 use lib.Dec.{eqb, ltb}
 use lib.ListN.{length, take, drop}
+use Rattle.std.proofs.Common.{length-drop}
+use Rattle.std.proofs.Math.Seq.{take-length}
 use Rattle.std.specs.Prelude.{Some, None}
 use Rattle.std.specs.List.{position, position_or_len}
-use Rattle.reader.specs.Lines.{lines, line_length}
+use Rattle.reader.specs.Lines.{lines, later, line_length}
 
 -- the length of the first line, by the place of its newline
 newline : ℕ → Bool
@@ -45,6 +47,15 @@ cut b (d ∷ s) false e = let c = cut d s (eqb d 10) refl in
 pub cut_some : (s : List ℕ) → 0 < length s → Cut s
 cut_some [] h = absurd (omega arith)
 cut_some (b ∷ s) h = cut b s (eqb b 10) refl
+
+-- what is left after the first line has the later ones
+pub first_later : (s : List ℕ) → lines (drop (line_length s) s) ≡ later (lines s)
+unfolding lines line_length
+first_later [] = refl
+first_later (x ∷ s) = sym (ap later (cut_some (x ∷ s) (omega arith)).first)
+
+pub rest_whole : (s : List ℕ) {n : ℕ} → n ≡ line_length s → take (length s - n) (drop n s) ≡ drop (line_length s) s
+rest_whole s {n} e = let d = drop (line_length s) s in rw (e, ← length-drop (line_length s) s) (take-length d)
 
 pub length_within : (s : List ℕ) → line_length s ≤ length s
 unfolding line_length

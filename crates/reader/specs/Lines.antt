@@ -19,6 +19,11 @@ unfoldable pub lines : List ℕ → List (List ℕ)
 lines [] = []
 lines (b ∷ s) = pick (eqb b 10) ((b ∷ []) ∷ lines s) (onto b (lines s))
 
+-- the lines after the first
+abbrev pub later : List (List ℕ) → List (List ℕ)
+later [] = []
+later (l ∷ ls) = ls
+
 -- how many bytes the first line has
 unfoldable pub line_length : List ℕ → ℕ
 line_length [] = 0

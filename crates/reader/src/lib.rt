@@ -4,4 +4,5 @@
 mod lines;
 mod numbers;
 
-pub use lines::{BadLine, line_length, read_line, read_opening};
+pub use lines::{BadLine, later_lines, line_length, read_line, read_opening};
+pub use numbers::read_numbers;

@@ -1,7 +1,7 @@
 // The lines of a text, and what a line says.
-ghost use Rattle.std.specs.Prelude.{◌≡◌, ◌≤◌, ◌<◌, eqb, length};
+ghost use Rattle.std.specs.Prelude.{◌≡◌, ◌-◌, ◌≤◌, ◌<◌, eqb, length};
 ghost use Rattle.std.specs.List.{position};
-ghost use Rattle.reader.specs.Lines.{line_length, call_of, line_of, opening_of, opening_line_of};
+ghost use Rattle.reader.specs.Lines.{lines, later, line_length, call_of, line_of, opening_of, opening_line_of};
 
 use crate::numbers::read_numbers;
 use book::{Call, Opening, Refusal};
@@ -40,6 +40,14 @@ pub fn line_length(text: &[u8]) -> usize
         Some(n) => n + 1,
         None => text.len(),
     }
+}
+
+// The lines after the first.
+pub fn later_lines(text: &[u8]) -> &[u8]
+    ensures within { length result.now ≤ length text.now - 1 }
+    ensures lines { lines result.now ≡ later (lines text.now) }
+{
+    &text[line_length(text)..]
 }
 
 // The call that a line's numbers are: its number, and its arguments in order.

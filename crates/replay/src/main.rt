@@ -1,4 +1,4 @@
-// Replays stored sessions and compares every byte: the arguments are the names of a heat table's file, of an input and of its output, in turn; the table `printed` is the printed one, and an output `NAME.page` is the page of the book after the session.
+// Replays stored sessions and compares every byte: the arguments are the names of a heat table's file, of an input and of its output, in turn; the table `printed` is the printed one, and an output `NAME.page` is the page of the book after the session. With the word `factory` for a table the input is a list of a factory's calls.
 #![tactic(auto)]
 
 use loading::PortTable;
@@ -33,9 +33,21 @@ fn load(rt: &HostRuntime, name: &str, most: u64) -> Vec<u8> {
     }
 }
 
+// Whether a list of a factory's calls gives the output that is stored for it. Room for that of every list is too much for a stack.
+fn list_agrees(rt: &HostRuntime, input: &[u8], stored: &[u8]) -> io::Result<bool> {
+    // No more were read.
+    let input = &input[..input.len().min(INPUT as usize)];
+    let mut out = vec![in rt.alloc(); 0; 82 * input.len() + 24]?;
+    let r = factory_text::dispatch(input, &mut out);
+    Ok(&out[..r] == stored)
+}
+
 // Whether the session of an input with a heat table gives the output that is stored for it: `no 31` where the table is refused.
 fn agrees(rt: &HostRuntime, table_name: &str, input_name: &str, output_name: &str) -> bool {
     let stored = load(rt, output_name, OUTPUT as u64);
+    if table_name == "factory" {
+        return list_agrees(rt, &load(rt, input_name, INPUT), &stored).unwrap_or(false);
+    }
     let mut table = PortTable::printed();
     if table_name != "printed" && table.load(&load(rt, table_name, TABLE)).is_err() {
         return stored[..] == b"no 31\n"[..];

@@ -1,7 +1,6 @@
 -- A session from its first line: line one's outcome, and what the whole comes to. Assumes nothing.
-use Rattle.std.specs.Prelude.{◌≡◌, true, List, [], ◌∷◌, ℕ, ◌-◌, ◌≤◌, ◌<◌, ltb, length, take, drop, Result, Ok, Err}
-use Rattle.std.proofs.Common.{refl, ap, sym, ◌∙◌, arith, lt-ltb, le-ltb, length-take, length-drop, append-nil}
-use Rattle.std.proofs.Math.Seq.{take-length}
+use Rattle.std.specs.Prelude.{◌≡◌, true, List, [], ◌∷◌, ℕ, ◌≤◌, ◌<◌, ltb, length, take, Result, Ok, Err}
+use Rattle.std.proofs.Common.{ap, sym, ◌∙◌, arith, lt-ltb, le-ltb, length-take, append-nil}
 use mathlib.Core.Bool.{true≢false}
 use Rattle.heats.specs.HeatTables.{IsHeatTable}
 use Rattle.book.specs.declared.tables.Book.{Book}
@@ -16,7 +15,7 @@ use Rattle.book.proofs.laws.Demand.{demand_3}
 use Rattle.reader.specs.declared.lines.BadLine.{BadLine}
 use Rattle.book.specs.declared.calls.Opening.{Opening}
 use Rattle.reader.specs.Numbers.{numbers, numbers_on}
-use Rattle.reader.specs.Lines.{lines, line_length, opening_of, opening_line_of}
+use Rattle.reader.specs.Lines.{lines, later, line_length, opening_of, opening_line_of}
 use Rattle.text.specs.declared.print.Printer.{Printer}
 use Rattle.text.specs.Print.{Put, answer_line}
 use Rattle.text.specs.Printer.{Prints}
@@ -24,7 +23,7 @@ use Rattle.text.specs.Ledger.{ledger}
 use Rattle.reader.proofs.Cutting.{cut_some}
 use Rattle.text.proofs.Printing.{prints_then}
 use Rattle.running.specs.Later.{answers, calls_of}
-use Rattle.session.specs.Session.{told, opened, first, later, line_one, session, outcome, Demanded, Delivered}
+use Rattle.session.specs.Session.{told, opened, first, line_one, session, outcome, Demanded, Delivered}
 
 -- ---- line one
 
@@ -37,15 +36,6 @@ pub first_line : (heats s : List ℕ) → length s ≤ 65_536 → (l : Result Op
 unfolding lines line_length line_one numbers numbers_on opening_of opening_line_of
 first_line heats [] h l q = rw q
 first_line heats (x ∷ s) h l q = rw (le-ltb _ _ h, q) (sym (ap (first heats) (cut_some (x ∷ s) (omega arith)).first))
-
-pub first_later : (s : List ℕ) → lines (drop (line_length s) s) ≡ later (lines s)
-unfolding lines line_length
-first_later [] = refl
-first_later (x ∷ s) = sym (ap later (cut_some (x ∷ s) (omega arith)).first)
-
--- what is left of a text after its first line
-pub rest_whole : (s : List ℕ) {n : ℕ} → n ≡ line_length s → take (length s - n) (drop n s) ≡ drop (line_length s) s
-rest_whole s {n} e = let d = drop (line_length s) s in rw (e, ← length-drop (line_length s) s) (take-length d)
 
 -- ---- an accepted line one
 

@@ -9,7 +9,7 @@ use Rattle.book.specs.Lists.{after}
 use Rattle.book.specs.Demand3.{Holds}
 use Rattle.reader.specs.declared.lines.BadLine.{BadLine}
 use Rattle.book.specs.declared.calls.Opening.{Opening}
-use Rattle.reader.specs.Lines.{lines, opening_line_of}
+use Rattle.reader.specs.Lines.{lines, later, opening_line_of}
 use Rattle.text.specs.Print.{answer_line}
 use Rattle.text.specs.Ledger.{ledger}
 use Rattle.running.specs.Later.{answers, calls_of}
@@ -25,14 +25,10 @@ abbrev pub opened : List ℕ → Result Opening BadLine → Outcome
 opened heats (Ok o) = opening heats o.kind o.tonnes o.rate o.price
 opened heats (Err e) = refuse 26 no_book
 
--- the first line of an input, and the later ones; "Empty input prints `no 26`"
+-- the first line of an input; "Empty input prints `no 26`"
 abbrev pub first : List ℕ → List (List ℕ) → Outcome
 first heats [] = refuse 26 no_book
 first heats (l ∷ ls) = opened heats (opening_line_of l)
-
-abbrev pub later : List (List ℕ) → List (List ℕ)
-later [] = []
-later (l ∷ ls) = ls
 
 -- line one's outcome; "input above 65,536 bytes (refused whole, as empty input is)"
 unfoldable pub line_one : List ℕ → List ℕ → Outcome

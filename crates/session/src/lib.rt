@@ -5,11 +5,10 @@ ghost use Rattle.std.specs.Prelude.{◌≡◌, ◌≤◌, IfOk, length};
 ghost use Rattle.book.specs.Outcomes.{Answer};
 ghost use Rattle.book.specs.Opening.{opened};
 ghost use Rattle.book.specs.Codes.{refusal_number};
-ghost use Rattle.reader.specs.Lines.{lines};
 ghost use Rattle.text.specs.Print.{answer_line};
 ghost use Rattle.text.specs.Page.{lent};
 ghost use Rattle.text.specs.Printer.{HasRoom, Prints};
-ghost use Rattle.session.specs.Session.{line_one, later, session, outcome, room, Delivered};
+ghost use Rattle.session.specs.Session.{line_one, session, outcome, room, Delivered};
 ghost use Rattle.session.specs.Paging.{lent_count, Paged};
 
 use book::{Carried, Month, Refusal};
@@ -29,14 +28,6 @@ fn line_one<'t>(heats: &HeatTable<'t>, input: &[u8]) -> Result<Month<'t>, Refusa
     accounts::opening(heats, &terms)
 }
 
-// The lines after line one.
-fn later_lines(input: &[u8]) -> &[u8]
-    ensures within { length result.now ≤ length input.now }
-    ensures lines { lines result.now ≡ later (lines input.now) }
-{
-    &input[reader::line_length(input)..]
-}
-
 // The output of a session: the answer to line one and, where that is accepted, those to the later lines, "Then the ledger".
 #[tactic(auto, using(text::proofs::Columns::few))]
 fn print_session(printer: &mut Printer, heats: &HeatTable, input: &[u8])
@@ -46,7 +37,7 @@ fn print_session(printer: &mut Printer, heats: &HeatTable, input: &[u8])
     match line_one(heats, input) {
         Ok(mut month) => {
             printer.answer(Ok(Carried::Number(0)));
-            running::print_run(&mut month, later_lines(input), printer);
+            running::print_run(&mut month, reader::later_lines(input), printer);
             text::print_ledger(printer, &month.book);
         }
         Err(refusal) => printer.answer(Err(refusal)),
@@ -70,7 +61,7 @@ fn outcome<'t>(heats: &HeatTable<'t>, input: &[u8]) -> Result<Month<'t>, Refusal
     ensures { opened result ≡ outcome heats.now input.now }
 {
     let mut month = line_one(heats, input)?;
-    running::run(&mut month, later_lines(input));
+    running::run(&mut month, reader::later_lines(input));
     Ok(month)
 }
 

@@ -1,6 +1,7 @@
 use Rattle.std.proofs.Common.{rules, tests, refl, ap, ◌∙◌}
 use Rattle.std.specs.Slice.Iter.{split_inclusive_rest, split_inclusive_callee}
-use Rattle.running.proofs.Running.{gives_lines, next_line, no_line, led_on, led_all}
+use Rattle.reader.proofs.Splitting.{gives_lines, next_line, no_line}
+use Rattle.running.proofs.Running.{led_on, led_all}
 use Rattle.running.proofs.run.Goals as goal
 
 pub loop-line-init : goal.loop-line-init

@@ -1,0 +1,6 @@
+pub mod Tests
+pub mod laws
+pub mod Counting
+pub mod Turns
+pub mod LastRound
+pub mod Reaching

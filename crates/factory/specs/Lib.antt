@@ -1,0 +1,9 @@
+pub mod Types
+pub mod Answers
+pub mod Holders
+pub mod Day
+pub mod Lists
+pub mod Within
+pub mod Fairness
+pub mod Balance
+pub mod Rounds

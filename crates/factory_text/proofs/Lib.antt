@@ -1,0 +1,5 @@
+pub mod Calling
+pub mod Form
+pub mod Printing
+pub mod Listing
+pub mod Worked

@@ -1,0 +1,6 @@
+use Rattle.std.proofs.Common.{rules}
+use Rattle.factory_text.proofs.Calling.{bad_line}
+use Rattle.factory_text.proofs.calls.read_call.Goals as goal
+
+pub returns-in_err-numbers : goal.returns-in_err-numbers
+returns-in_err-numbers c = bad_line _ _ (search rules) c.in_err-numbers.ensures.bad
