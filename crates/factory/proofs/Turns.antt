@@ -3,7 +3,7 @@ use Rattle.std.specs.Prelude.{◌≡◌, List, [], ◌∷◌, ℕ, zero, suc, �
 use Rattle.std.proofs.Common.{sym, ap, arith, le-ltb, lt-ltb}
 use Rattle.std.proofs.Math.Nat.{lt-div-mul-add}
 use mathlib.Core.Logic.{⊎_elim}
-use Rattle.factory.specs.Rounds.{above, Waits, turns_left}
+use Rattle.factory.specs.Rounds.{above, OneHad, Waits, turns_left}
 use Rattle.factory.proofs.Tests.{by_less}
 use Rattle.factory.proofs.laws.Levels.{none_above, above_more, above_same}
 
@@ -48,7 +48,7 @@ turns_fewer r l count least rest s w n h q =
     let b : turns_left r rest l ≡ count = rw (le-ltb _ _ (rw w.counted at h)) (sym w.counted) in
     ⊎_elim
     (λ (z : count ≡ 0). absurd (n z))
-    (λ (g : (k : ℕ) × (k < length l) × (r < get_or l k 0) × (get_or l k 0 ≡ least)).
+    (λ (g : OneHad r (length l) l least).
     by_less (rest / count) (least - r)
     (λ c.
     let e : s ≡ rest / count = omega arith in

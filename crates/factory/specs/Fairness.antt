@@ -27,10 +27,16 @@ pub record Fair (f : Factory) (shares : List ℕ) : Type 0 where
   -- "Each day starts at the first holder": none gets more than one before it who still waits
   pub first : (j k : ℕ) → j ≤ k → k < length f.holders → share shares j < had f j → share shares k ≤ share shares j
 
--- the shares of a day are so, and no others are
+-- the shares of a day are so, and no others are; and what the day leaves
 pub record Shared (f : Factory) : Type 0 where
   pub fair : Fair f (shares_of (day f).answer)
   pub only : (others : List ℕ) → Fair f others → others ≡ shares_of (day f).answer
+  -- "skipping whoever is served": each holder keeps its place, a served one too
+  pub places : length (day f).factory.holders ≡ length f.holders
+  -- each has left to collect what it had that morning, but for its share
+  pub left : (k : ℕ) → share (shares_of (day f).answer) k + had (day f).factory k ≡ had f k
+  -- "a fixed number of units a day": the next day has as many
+  pub daily : (day f).factory.daily ≡ f.daily
 
 -- of every factory
 abbrev pub Fairness : Type 0

@@ -16,11 +16,15 @@ pub record AreWhole (daily : ℕ) (l : List ℕ) (r rest : ℕ) : Type 0 where
   pub sum : taken r l + rest ≡ daily
   pub last : (rest < above r l) ⊎ (above r l ≡ 0)
 
+-- one of the first n holders waits after r whole rounds, and had so many units in the morning
+abbrev pub OneHad : ℕ → ℕ → List ℕ → ℕ → Type 0
+OneHad r n l units = (k : ℕ) × (k < n) × (r < get_or l k 0) × (get_or l k 0 ≡ units)
+
 -- of the holders who wait after r whole rounds: how many they are, and the least that one of them had in the morning
 pub record Waits (r : ℕ) (l : List ℕ) (count least : ℕ) : Type 0 where
   pub counted : count ≡ above r l
   pub had : (k : ℕ) → k < length l → r < get_or l k 0 → least ≤ get_or l k 0
-  pub one : (count ≡ 0) ⊎ ((k : ℕ) × (k < length l) × (r < get_or l k 0) × (get_or l k 0 ≡ least))
+  pub one : (count ≡ 0) ⊎ OneHad r (length l) l least
 
 -- how many turns code has left, at most, where so many units are left: none where they are fewer than wait
 abbrev pub turns_left : ℕ → ℕ → List ℕ → ℕ

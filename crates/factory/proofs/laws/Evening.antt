@@ -1,12 +1,11 @@
 -- The evening of a day, holder by holder and added up. Assumes nothing.
-use Rattle.std.specs.Prelude.{◌≡◌, refl, true, List, [], ◌∷◌, map, ℕ, zero, suc, ◌+◌, ◌-◌, ◌*◌, ◌≤◌, ◌⊎◌, min, length, get_or, sum}
+use Rattle.std.specs.Prelude.{◌≡◌, refl, true, List, [], ◌∷◌, map, ℕ, zero, suc, ◌+◌, ◌-◌, ◌*◌, ◌≤◌, min, length, get_or, sum}
 use Rattle.std.proofs.Common.{ap, ◌∙◌, arith}
 use Rattle.std.proofs.lemmas.List.{length-map}
 use Rattle.std.proofs.Math.ListN.{get_or-map}
 use Rattle.std.proofs.lemmas.List.Sums.{sum_by-cons}
 use Rattle.std.proofs.lemmas.Bool.{ltb-true}
 use Rattle.std.proofs.Math.Nat.{mul-suc}
-use mathlib.Core.Logic.{inl, inr, ⊎_elim}
 use Rattle.factory.specs.Types.{Factory}
 use Rattle.factory.specs.Day.{Holder, holder, waits, given, evening}
 use Rattle.factory.specs.Rounds.{above, taken, AreWhole}
@@ -28,19 +27,16 @@ level_at r l k =
     let z : holder 0 ≡ at_level r 0 = rw (a, b) refl in
     ap (λ d. get_or (map (at_level r) l) k d) z ∙ get_or-map (at_level r) l k 0
 
--- a round gives a holder nothing, or a unit if it waits
-pub one_or_none : (u : ℕ) (hs : List Holder) (k : ℕ) → (at (rounded u hs) k ≡ at hs k) ⊎ ((waits (at hs k) ≡ true) × (at (rounded u hs) k ≡ given (at hs k)))
+-- a holder after a round, two ways: it has got nothing, or a unit if it waits
+pub by_unit : (P : Holder → Type 0) (u : ℕ) (hs : List Holder) (k : ℕ) → P (at hs k) → (waits (at hs k) ≡ true → P (given (at hs k))) → P (at (rounded u hs) k)
 unfolding rounded
-one_or_none zero hs k = inl refl
-one_or_none (suc u) [] k = inl refl
-one_or_none (suc u) (h ∷ hs) zero = by_test (waits h) (λ w. inr (w, rw w refl)) (λ w. inl (rw w refl))
-one_or_none (suc u) (h ∷ hs) (suc k) =
-    by_test (waits h)
-    (λ w. rw w (one_or_none u hs k))
-    (λ w. rw w (one_or_none (suc u) hs k))
+by_unit P zero hs k p q = p
+by_unit P (suc u) [] k p q = p
+by_unit P (suc u) (h ∷ hs) zero p q = by_test (waits h) (λ w. rw w (q w)) (λ w. rw w p)
+by_unit P (suc u) (h ∷ hs) (suc k) p q = by_test (waits h) (λ w. rw w (by_unit P u hs k p q)) (λ w. rw w (by_unit P (suc u) hs k p q))
 
-pub at_most_one : (u : ℕ) (hs : List Holder) (k : ℕ) → (at (rounded u hs) k).share ≤ (at hs k).share + 1
-at_most_one u hs k = ⊎_elim (λ (e : at (rounded u hs) k ≡ at hs k). rw e (omega arith)) (λ (e : (waits (at hs k) ≡ true) × (at (rounded u hs) k ≡ given (at hs k))). rw e.1 (omega arith)) (one_or_none u hs k)
+at_most_one : (u : ℕ) (hs : List Holder) (k : ℕ) → (at (rounded u hs) k).share ≤ (at hs k).share + 1
+at_most_one u hs k = by_unit (λ h. h.share ≤ (at hs k).share + 1) u hs k (omega arith) (λ w. omega arith)
 
 -- no holder gets a unit in a round unless each who waits before it gets one
 pub none_before : (u : ℕ) (hs : List Holder) (j k : ℕ) → j ≤ k → waits (at hs j) ≡ true → (at (rounded u hs) k).share + (at hs j).share ≤ (at (rounded u hs) j).share + (at hs k).share
@@ -132,13 +128,13 @@ module _ (f : Factory) where
   unfolding evening
   evening_length = rw (evening_is f.daily f.holders whole.0 whole.1 whole.2) (rounded_length whole.1 (map (at_level whole.0) f.holders) ∙ length-map f.holders (at_level whole.0))
 
-  -- nobody has more left than in the morning
-  pub evening_left : (k : ℕ) → (at (evening f) k).left ≤ get_or f.holders k 0
+  -- what a holder had in the morning is its share and what it has left
+  pub evening_had : (k : ℕ) → (at (evening f) k).share + (at (evening f) k).left ≡ get_or f.holders k 0
   unfolding evening
-  evening_left k =
+  evening_had k =
+      let x = get_or f.holders k 0 in
       let b = level_at whole.0 f.holders k in
       rw (evening_is f.daily f.holders whole.0 whole.1 whole.2)
-      (⊎_elim
-      (λ (e : at (rounded whole.1 (map (at_level whole.0) f.holders)) k ≡ at (map (at_level whole.0) f.holders) k). rw (e, b) (omega arith))
-      (λ (e : (waits (at (map (at_level whole.0) f.holders) k) ≡ true) × (at (rounded whole.1 (map (at_level whole.0) f.holders)) k ≡ given (at (map (at_level whole.0) f.holders) k))). rw (e.1, b) (omega arith))
-      (one_or_none whole.1 (map (at_level whole.0) f.holders) k))
+      (by_unit (λ h. h.share + h.left ≡ x) whole.1 (map (at_level whole.0) f.holders) k
+      (rw b (omega arith))
+      (λ w. let v = ltb-true 0 (x - whole.0) (rw b at w) in rw b (omega arith)))

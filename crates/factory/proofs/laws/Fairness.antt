@@ -1,13 +1,13 @@
 -- Every day is fair. Assumes nothing.
-use Rattle.std.specs.Prelude.{◌≡◌, true, List, map, ℕ, ◌+◌, ◌-◌, ◌*◌, ◌/◌, ◌≤◌, ◌<◌, ◌⊎◌, min, length, sum}
+use Rattle.std.specs.Prelude.{◌≡◌, refl, List, map, ℕ, ◌+◌, ◌-◌, ◌*◌, ◌/◌, ◌≤◌, ◌<◌, min, length, sum}
 use Rattle.std.proofs.Common.{ap, ◌∙◌, arith}
 use Rattle.std.proofs.lemmas.List.{length-map}
 use Rattle.std.proofs.Math.ListN.{get_or-map}
 use Rattle.std.proofs.Math.Nat.{div-lt_iff_lt-mul}
 use Rattle.std.proofs.lemmas.Bool.{ltb-true}
-use mathlib.Core.Logic.{inl, inr, ⊎_elim}
+use mathlib.Core.Logic.{⊎_elim}
 use Rattle.factory.specs.Types.{Factory}
-use Rattle.factory.specs.Day.{Holder, holder, waits, given, evening, day}
+use Rattle.factory.specs.Day.{Holder, holder, evening, day}
 use Rattle.factory.specs.Rounds.{above, taken, AreWhole}
 use Rattle.factory.specs.Lists.{shares_of, waiting}
 use Rattle.factory.specs.Fairness.{had, share, Fair, Fairness}
@@ -15,7 +15,7 @@ use Rattle.factory.proofs.Tests.{by_less}
 use Rattle.factory.proofs.laws.Rounds.{rounded, rounded_length}
 use Rattle.factory.proofs.laws.Levels.{at_level, still_waits, taken_next, waiting_are, evening_is, some_whole}
 use Rattle.factory.proofs.laws.Only.{only}
-use Rattle.factory.proofs.laws.Evening.{at, level_at, one_or_none, none_before, round_shares, level_shares, taken_most, taken_all, taken_few, nobody_above}
+use Rattle.factory.proofs.laws.Evening.{at, level_at, by_unit, none_before, round_shares, level_shares, taken_most, taken_all, taken_few, nobody_above, evening_had, evening_length}
 
 -- a day of r whole rounds and a last one with the units that they leave
 module _ (f : Factory) (r rest : ℕ) (w : AreWhole f.daily f.holders r rest) where
@@ -33,23 +33,19 @@ module _ (f : Factory) (r rest : ℕ) (w : AreWhole f.daily f.holders r rest) wh
   share_is : (k : ℕ) → share shares k ≡ (at (rounded rest before) k).share
   share_is k = rw shares_are (get_or-map (λ h. h.share) (rounded rest before) k (holder 0))
 
-  -- with the last round a holder has a unit more than of the whole ones, or none
-  last : (k : ℕ) → (share shares k ≡ min (had f k) r) ⊎ ((r < had f k) × (share shares k ≡ r + 1))
-  last k =
-      let b = level_at r f.holders k in
-      rw (share_is k)
-      (⊎_elim
-      (λ (e : at (rounded rest before) k ≡ at before k). inl (ap (λ h. h.share) (e ∙ b)))
-      (λ (e : (waits (at before k) ≡ true) × (at (rounded rest before) k ≡ given (at before k))).
-      let v = ltb-true 0 (had f k - r) (rw b at e.0) in
-      inr (omega arith, omega (arith, ap (λ h. h.share) (e.1 ∙ ap given b))))
-      (one_or_none rest before k))
-
+  -- with the last round a holder has what it has of the whole ones, or a unit more
   at_least : (k : ℕ) → min (had f k) r ≤ share shares k
-  at_least k = ⊎_elim (λ (e : share shares k ≡ min (had f k) r). omega arith) (λ (e : (r < had f k) × (share shares k ≡ r + 1)). omega arith) (last k)
+  at_least k =
+      let b = level_at r f.holders k in
+      rw (share_is k) (by_unit (λ h. min (had f k) r ≤ h.share) rest before k (rw b (omega arith)) (λ v. rw b (omega arith)))
 
   at_most : (k : ℕ) → share shares k ≤ min (had f k) (r + 1)
-  at_most k = ⊎_elim (λ (e : share shares k ≡ min (had f k) r). omega arith) (λ (e : (r < had f k) × (share shares k ≡ r + 1)). omega arith) (last k)
+  at_most k =
+      let b = level_at r f.holders k in
+      rw (share_is k)
+      (by_unit (λ h. h.share ≤ min (had f k) (r + 1)) rest before k
+      (rw b (omega arith))
+      (λ v. let g = ltb-true 0 (had f k - r) (rw b at v) in rw b (omega arith)))
 
   -- of those who wait after the whole rounds, none gets more than one before it
   ahead : (j k : ℕ) → j ≤ k → r < had f j → r < had f k → share shares k ≤ share shares j
@@ -87,8 +83,22 @@ module _ (f : Factory) (r rest : ℕ) (w : AreWhole f.daily f.holders r rest) wh
     first = λ j k g h e. by_less r (had f k) (λ b. ahead j k g (omega (arith, at_least j)) b) (λ b. omega (arith, at_most k, at_least j));
   }
 
+-- ---- what a day leaves
+
+left_is : (f : Factory) (k : ℕ) → share (shares_of (day f).answer) k + had (day f).factory k ≡ had f k
+unfolding day
+left_is f k = rw (get_or-map (λ h. h.share) (evening f) k (holder 0), get_or-map (λ h. h.left) (evening f) k (holder 0)) (evening_had f k)
+
+places_are : (f : Factory) → length (day f).factory.holders ≡ length f.holders
+unfolding day
+places_are f = length-map (evening f) (λ h. h.left) ∙ evening_length f
+
+daily_is : (f : Factory) → (day f).factory.daily ≡ f.daily
+unfolding day
+daily_is f = refl
+
 pub fairness : Fairness
 fairness f =
     let s = some_whole f.daily f.holders in
     let a = fair f s.0 s.1 s.2 in
-    record { fair = a; only = λ others b. only f others (shares_of (day f).answer) b a }
+    record { fair = a; only = λ others b. only f others (shares_of (day f).answer) b a; places = places_are f; left = left_is f; daily = daily_is f }

@@ -13,7 +13,7 @@ use Rattle.factory.specs.Day.{holder, evening, day}
 use Rattle.factory.specs.Lists.{step, made, called}
 use Rattle.factory.specs.Within.{Within, AlwaysWithin}
 use Rattle.factory.proofs.Tests.{by_less}
-use Rattle.factory.proofs.laws.Evening.{evening_length, evening_left}
+use Rattle.factory.proofs.laws.Evening.{evening_length, evening_had}
 
 making_within : (daily : ℕ) (f : Factory) → making daily ≡ Ok f → Within f
 unfolding making
@@ -65,7 +65,7 @@ called_within f Call.Day w = record {
   some = w.some;
   few = w.few;
   holders = omega (arith, length-map (evening f) (λ h. h.left), evening_length f, w.holders);
-  claims = λ k. rw (get_or-map (λ h. h.left) (evening f) k (holder 0)) (omega (arith, evening_left f k, w.claims k));
+  claims = λ k. rw (get_or-map (λ h. h.left) (evening f) k (holder 0)) (omega (arith, evening_had f k, w.claims k));
 }
 
 pub within : AlwaysWithin
