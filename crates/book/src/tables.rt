@@ -11,7 +11,7 @@ use heats::HeatTable;
 
 // The book: kind, T, R, the day's price, and the three tables, each an array of fixed length with how many of its rows are in use: "starts as [v; 256]". The heat table that it was opened with, lent, stands last, where no row's place depends on it.
 // No invariant bounds the counts: Day, Join and the test of Close are promised of any book, and would ask it. A function that cuts the rows in use asks its count.
-#[derive(Drop)]
+#[derive(Clone, Drop)]
 pub struct Book<'t> {
     pub board: bool,
     pub tonnes: u64,
@@ -102,6 +102,16 @@ impl<'t> Book<'t> {
             matches,
             match_count: 0,
             heats,
+        }
+    }
+
+    // The same book, on which a call can be tried: its tables are copied, its heat table is lent on. A book is not `Copy`: today's Rattle has that of no type with a lifetime that a clause sees as another value, as it does its heat table.
+    pub fn copied(&self) -> Book<'t>
+        ensures { result ≡ self.now }
+    {
+        Book {
+            heats: self.heats.lend(),
+            ..*self
         }
     }
 

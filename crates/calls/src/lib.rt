@@ -2,7 +2,7 @@
 #![tactic(auto)]
 
 ghost use Rattle.std.specs.Prelude.{◌≡◌};
-ghost use Rattle.book.specs.Answers.{carried_outcome};
+ghost use Rattle.book.specs.Answers.{carried_outcome, refusal, refusal_of};
 ghost use Rattle.book.specs.Calls.{step};
 
 use book::{Call, Carried, Month, Refusal};
@@ -45,4 +45,12 @@ pub fn apply(month: &mut Month, call: Call) -> Result<Carried, Refusal>
         } => auction::auction(month, number, winner, proceeds),
     };
     Ok(Carried::Number(number?))
+}
+
+// Why a call would be refused, where it would be; it is not made, but tried on a month of its own.
+pub fn refusal(month: &Month, call: Call) -> Result<(), Refusal>
+    ensures { refusal result ≡ refusal_of (step month.now call).answer }
+{
+    apply(&mut month.copied(), call)?;
+    Ok(())
 }

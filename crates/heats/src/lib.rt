@@ -1724,7 +1724,7 @@ pub fn numerators() -> &'static [u64; 1_701]
 }
 
 // A heat table, lent: a port's own or the printed one. A clause sees its entries.
-#[derive(Drop)]
+#[derive(Clone, Drop)]
 pub struct HeatTable<'t> {
     entries: &'t [u64; 1_701],
 }
