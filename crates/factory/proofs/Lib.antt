@@ -4,3 +4,4 @@ pub mod Counting
 pub mod Turns
 pub mod LastRound
 pub mod Reaching
+pub mod Leaving

@@ -1,7 +1,8 @@
 // A factory's daily dispatch, shared among its holders (document 02, Job 14). It knows nothing of a delivery book.
 #![tactic(auto, unfolding(crate::specs::Holders::making, crate::specs::Holders::arrive, crate::specs::Holders::leave, crate::specs::Lists::step))]
 
-ghost use Rattle.std.specs.Prelude.{◌≡◌};
+ghost use Rattle.std.specs.Prelude.{◌≡◌, ◌<◌, remove};
+ghost use Rattle.arrayvec.specs.ArrayVec.{array_vec_len};
 ghost use Rattle.factory.specs.Answers.{refusal_number, made, outcome, number_outcome, shared};
 ghost use Rattle.factory.specs.Holders.{making, arrive, leave};
 ghost use Rattle.factory.specs.Day.{day};
@@ -11,6 +12,7 @@ mod sharing;
 
 use arrayvec::ArrayVec;
 use std::marker::Model;
+use std::mem;
 
 // Why a call is refused: the number of each is its discriminant.
 #[derive(Clone, Copy, PartialEq, Eq)]
@@ -33,6 +35,18 @@ impl Refusal {
 
 // A number of units for each holder, in order of appointment.
 pub type Units = ArrayVec<u16, { Factory::HOLDERS }>;
+
+// "later holders move up": who is at a place leaves, and each behind it takes the place before its own, the last first. Written out, since `remove` of `ArrayVec` would have the archive for C ask for memmove.
+fn remove(holders: &mut Units, place: usize)
+    requires { place < array_vec_len holders.old }
+    ensures { holders.new.items ≡ remove holders.old.items place }
+{
+    if let Some(mut carried) = holders.pop() {
+        for k in (place..holders.len()).rev() {
+            carried = mem::replace(&mut holders[k], carried);
+        }
+    }
+}
 
 // The calls on a factory.
 #[derive(Clone, Copy)]
@@ -104,7 +118,7 @@ impl Factory {
         if self.holders.len() as u64 <= place {
             return Err(Refusal::NoHolder);
         }
-        self.holders.remove(place as usize);
+        remove(&mut self.holders, place as usize);
         Ok(0)
     }
 

@@ -77,7 +77,8 @@ pub fn lend_refusal(out: &mut [u8], refusal: Refusal) -> Option<usize>
     if out.len() < length {
         return None;
     }
-    out[..length].copy_from_slice(&printer.out[..length]);
+    let mut front = Printer::new(out);
+    front.bytes(&printer.out[..length]);
     Some(length)
 }
 

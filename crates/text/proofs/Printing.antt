@@ -99,6 +99,9 @@ digits_16 n h = digits_short 4 n (omega arith)
 pub digits_small : (n : ℕ) → n < 10 → digits n ≡ (48 + n % 10) ∷ []
 digits_small n h = rw (digits_step n, lt-ltb n 10 h) refl
 
+pub digits_two : (n : ℕ) → 10 ≤ n → n < 100 → digits n ≡ (48 + n / 10 % 10) ∷ (48 + n % 10) ∷ []
+digits_two n g h = rw (digits_step n, le-ltb n 10 g, digits_small (n / 10) (omega arith)) refl
+
 -- the library's decimal text of a number
 pub digits_decimal : (n : ℕ) → n < 2 ^ 64 → digits n ≡ decimal n
 digits_decimal n h = decimal_by_steps (λ m l. digits m ≡ l)

@@ -6,5 +6,5 @@ mod print;
 mod rows;
 
 pub use ledger::{print_ledger, stage_number};
-pub use print::{Printer, decimal};
+pub use print::{Printer, decimal, last_digit};
 pub use rows::{Row, print_rows};

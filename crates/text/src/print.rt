@@ -23,6 +23,13 @@ pub fn decimal(buffer: &mut itoa::Buffer, n: u64) -> &[u8]
     buffer.format(n).as_bytes()
 }
 
+// The last digit of a number.
+pub fn last_digit(n: u64) -> u8
+    ensures { result ≡ 48 + n % 10 }
+{
+    b'0' + (n % 10) as u8
+}
+
 impl<'a> Printer<'a> {
     ghost use Rattle.text.specs.Printer.{HasRoom, Prints};
 
@@ -42,12 +49,16 @@ impl<'a> Printer<'a> {
         self.at += 1;
     }
 
+    // A loop: `copy_from_slice` would want `memmove` of C.
     pub fn bytes(&mut self, src: &[u8])
         requires { HasRoom self.old (length src.now) }
         ensures { Prints self.old self.new src.now }
     {
         let end = self.at + src.len();
-        self.out[self.at..end].copy_from_slice(src);
+        let part = &mut self.out[self.at..end];
+        for (i, b) in src.iter().enumerate() {
+            part[i] = *b;
+        }
         self.at = end;
     }
 
@@ -55,17 +66,21 @@ impl<'a> Printer<'a> {
         requires { HasRoom self.old 1 }
         ensures { Prints self.old self.new ((48 + n % 10) ∷ []) }
     {
-        self.byte(b'0' + (n % 10) as u8);
+        self.byte(last_digit(n));
     }
 
-    // A number's digits, with room for just these. One alone needs no buffer of its own.
-    #[tactic(auto, using(crate::proofs::Printing::digits_small))]
+    // A number's digits, with room for just these. One or two need no buffer of their own.
+    #[tactic(auto, using(crate::proofs::Printing::digits_small, crate::proofs::Printing::digits_two))]
     pub fn digits(&mut self, n: u64)
         requires { HasRoom self.old (length (digits n)) }
         ensures { Prints self.old self.new (digits n) }
     {
         if n < 10 {
             self.last_digit(n);
+            return;
+        }
+        if n < 100 {
+            self.bytes(&[last_digit(n / 10), last_digit(n)]);
             return;
         }
         let mut buffer = itoa::Buffer::new();
@@ -152,7 +167,22 @@ impl<'a> Printer<'a> {
         self.byte(b'\n');
     }
 
-    // `ok n` or `no n`; after Close `ok` and three numbers.
+    // `no n`; with a number of two digits, as most refusals have, in one writing.
+    #[tactic(auto, using(crate::proofs::Printing::digits_two), unfolding(crate::specs::Print::spaced))]
+    pub fn refused(&mut self, n: u64)
+        requires { HasRoom self.old 24 }
+        ensures printed { Prints self.old self.new (answer_line (Answer.Refused n)) }
+        ensures few { self.new.at ≤ self.old.at + 24 }
+    {
+        if 10 <= n && n < 100 {
+            self.bytes(&[b'n', b'o', b' ', last_digit(n / 10), last_digit(n), b'\n']);
+            return;
+        }
+        self.heading(b"no", n);
+    }
+
+    // `ok n` or `no n`; after Close `ok` and three numbers. Inlined, as each line of a session has one.
+    #[inline(always)]
     pub fn answer(&mut self, answer: Result<Carried, Refusal>)
         requires { HasRoom self.old 24 }
         ensures printed { Prints self.old self.new (answer_line (carried_answer answer)) }
@@ -161,7 +191,7 @@ impl<'a> Printer<'a> {
         match answer {
             Ok(Carried::Number(n)) => self.heading(b"ok", n),
             Ok(Carried::Closed { pairs, tests, gap }) => self.closed(pairs, tests, gap),
-            Err(refusal) => self.heading(b"no", refusal.number()),
+            Err(refusal) => self.refused(refusal.number()),
         }
     }
 }
