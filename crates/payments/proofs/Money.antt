@@ -77,12 +77,12 @@ module _ (b : Book) (m : ValuedMatch) (d : Due b m) where
   pub handing_due : Handing b m
   handing_due = record { receipts_few = d.receipts_few; seller_there = d.deal.seller_there; room = room_less 1 8 b d.room (omega arith) }
 
-  -- after account i paid x to the buyer
-  pub handing_sold : (c f : Book) (i x : ℕ) → c ≡ charge b i x → f ≡ pay c m.row.buyer x → x ≤ most_paid → Handing f m
+  -- after account i paid x to the buyer: of a match with that row, whatever it is said to be worth
+  pub handing_sold : (n : ValuedMatch) → n.row ≡ m.row → (c f : Book) (i x : ℕ) → c ≡ charge b i x → f ≡ pay c m.row.buyer x → x ≤ most_paid → Handing f n
   unfolding pay charge
-  handing_sold c f i x e g h = record {
+  handing_sold n q c f i x e g h = record {
     receipts_few = rw (g, e) d.receipts_few;
-    seller_there = d.deal.seller_there;
+    seller_there = rw q d.deal.seller_there;
     room = room_paid 1 c f m.row.buyer x g h (room_charged 2 b c i x e h (room_less 3 8 b d.room (omega arith)));
   }
 
